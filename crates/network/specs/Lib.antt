@@ -1,0 +1,4 @@
+pub mod Carried
+pub mod Messages
+pub mod Bags
+pub mod Rules
