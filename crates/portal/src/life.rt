@@ -1,4 +1,6 @@
 // One cell, its home, and the boards that ask for it, over any network.
+use crate::limits::address;
+use crate::limits::node;
 use home::Cell;
 use home::CellDisplay;
 use home::Replies;
@@ -21,20 +23,6 @@ const DELIVERIES: u64 = 64;
 struct Site {
     home: Node,
     address: Address,
-}
-
-fn node(number: u64) -> Result<Node, AnyError> {
-    match Node::new(number) {
-        Some(node) => Ok(node),
-        None => Err("no such node".into()),
-    }
-}
-
-fn address(number: u64) -> Result<Address, AnyError> {
-    match Address::new(number) {
-        Some(address) => Ok(address),
-        None => Err("no such address".into()),
-    }
 }
 
 // A message to fill room with.

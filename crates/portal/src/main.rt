@@ -1,5 +1,7 @@
-// Walks one cell's life over each network: each message as it arrives, and the cell after it.
+// Walks one cell's life over each network (each message as it arrives, and the cell after it), and then one board's.
+mod desk;
 mod life;
+mod limits;
 mod stack;
 
 use life::blank;
@@ -25,7 +27,8 @@ fn run(rt: &LibcRuntime) -> Result<(), AnyError> {
     let pile = Delay::new(Twin::new(Pool::new(), Lanes::new()));
     walk(rt, "a delay over a twin of pool and lanes", pile)?;
     let stack = Stack::new(blank()?);
-    walk(rt, "a stack, written outside the network crate", stack)
+    walk(rt, "a stack, written outside the network crate", stack)?;
+    desk::walk(rt)
 }
 
 fn main(rt: LibcRuntime) -> Result<(), AnyError> {

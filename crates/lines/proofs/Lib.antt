@@ -1,0 +1,14 @@
+pub mod Counts
+pub mod Pigeons
+pub mod Marks
+pub mod Finds
+pub mod Looks
+pub mod Room
+pub mod Keeps
+pub mod Wakes
+pub mod Acts
+pub mod Mapped
+pub mod Commands
+pub mod Searches
+pub mod Waking
+pub mod Kept

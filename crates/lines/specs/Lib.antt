@@ -1,0 +1,5 @@
+pub mod Model
+pub mod Facts
+pub mod Plain
+pub mod Raws
+pub mod Boards

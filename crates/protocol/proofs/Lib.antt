@@ -1,0 +1,11 @@
+pub mod Count
+pub mod Moves
+pub mod Inv
+pub mod Boards
+pub mod Steps
+pub mod Homes
+pub mod Deeds
+pub mod Calls
+pub mod Runs
+pub mod Laws
+pub mod Example

@@ -1,0 +1,5 @@
+pub mod Moments
+pub mod Steps
+pub mod Counts
+pub mod Laws
+pub mod Example
