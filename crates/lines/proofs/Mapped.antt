@@ -18,9 +18,6 @@ past-mapped f xs i e h = let l = length-map xs f in sym (getD-past (map f xs) i 
 pub set-past-mapped : {X Y : Type 0} (f : X → Y) (xs : List X) (i : ℕ) (y : Y) → length xs ≤ i → map f xs ≡ set (map f xs) i y
 set-past-mapped f xs i y h = let l = length-map xs f in sym (set-past (map f xs) i y (omega arith))
 
-pub length-mapped : {X Y : Type 0} (f : X → Y) (xs : List X) → length (map f xs) ≡ length xs
-length-mapped f xs = length-map xs f
-
 pub nth-map : {X Y : Type 0} (f : X → Y) (xs : List X) (i : ℕ) → nth (map f xs) i ≡ mapped f (nth xs i)
 nth-map f [] i = refl
 nth-map f (x ∷ xs) zero = refl

@@ -1,4 +1,6 @@
-// Walks one cell's life over each network (each message as it arrives, and the cell after it), and then one board's.
+// Walks one cell's life over each network (each message as it arrives, and the cell after it), then one board's,
+// and then the nine calls.
+mod calls;
 mod desk;
 mod life;
 mod limits;
@@ -28,7 +30,8 @@ fn run(rt: &LibcRuntime) -> Result<(), AnyError> {
     walk(rt, "a delay over a twin of pool and lanes", pile)?;
     let stack = Stack::new(blank()?);
     walk(rt, "a stack, written outside the network crate", stack)?;
-    desk::walk(rt)
+    desk::walk(rt)?;
+    calls::walk(rt)
 }
 
 fn main(rt: LibcRuntime) -> Result<(), AnyError> {

@@ -9,3 +9,4 @@ pub mod Calls
 pub mod Runs
 pub mod Laws
 pub mod Example
+pub mod EdgeCases

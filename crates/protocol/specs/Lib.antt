@@ -3,3 +3,4 @@ pub mod Steps
 pub mod Counts
 pub mod Laws
 pub mod Example
+pub mod Edges

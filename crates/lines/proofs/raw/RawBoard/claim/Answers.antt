@@ -12,11 +12,11 @@ use Rattle.lines.specs.declared.types.Kind.{Kind}
 use Rattle.lines.specs.declared.types.Kind.the-variants as kind
 use Rattle.lines.specs.Model.{empty, or-else}
 use Rattle.lines.specs.Plain.{plain-line, of-kind}
-use Rattle.lines.proofs.Mapped.{length-mapped}
+use Rattle.std.proofs.shelf.Lists.{length-map}
 use Rattle.lines.proofs.raw.RawBoard.claim.Needs as need
 
 pointed : (h : ℕ) (ls slice : List Line) → slice ≡ ls → h < length (map plain-line ls) → h < length slice
-pointed h ls slice e low = let a = ap length e in let b = length-mapped plain-line ls in omega arith
+pointed h ls slice e low = let a = ap length e in let b = length-map ls plain-line in omega arith
 
 abbrev first : Kind → ℕ → List Line → Option ℕ
 first k h ls = firstRound (λ i. of-kind k (getD (map plain-line ls) i empty)) (length (map plain-line ls)) h

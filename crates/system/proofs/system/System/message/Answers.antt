@@ -1,0 +1,1 @@
+use Rattle.system.proofs.system.System.message.Needs as need

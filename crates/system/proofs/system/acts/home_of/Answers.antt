@@ -1,0 +1,1 @@
+use Rattle.system.proofs.system.acts.home_of.Needs as need

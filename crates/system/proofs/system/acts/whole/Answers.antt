@@ -1,0 +1,1 @@
+use Rattle.system.proofs.system.acts.whole.Needs as need

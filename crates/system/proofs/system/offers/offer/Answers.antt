@@ -1,0 +1,1 @@
+use Rattle.system.proofs.system.offers.offer.Needs as need

@@ -1,0 +1,5 @@
+pub mod Faults
+pub mod Systems
+pub mod Through
+pub mod Parked
+pub mod Told
