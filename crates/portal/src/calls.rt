@@ -42,7 +42,7 @@ const CALLS: [Call; 20] = [
     Call::Read(0, 4, 7, 3),
 ];
 
-fn refused(rt: &LibcRuntime, fault: SystemFault) -> Result<(), AnyError> {
+pub(crate) fn refused(rt: &LibcRuntime, fault: SystemFault) -> Result<(), AnyError> {
     let refusal = fault.refusal();
     let number = refusal.number;
     print!(rt, "refused, {number}")?;

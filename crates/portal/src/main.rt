@@ -1,9 +1,10 @@
 // Walks one cell's life over each network (each message as it arrives, and the cell after it), then one board's,
-// and then the nine calls.
+// the nine calls, and an array of samples.
 mod calls;
 mod desk;
 mod life;
 mod limits;
+mod samples;
 mod stack;
 
 use life::blank;
@@ -31,7 +32,8 @@ fn run(rt: &LibcRuntime) -> Result<(), AnyError> {
     let stack = Stack::new(blank()?);
     walk(rt, "a stack, written outside the network crate", stack)?;
     desk::walk(rt)?;
-    calls::walk(rt)
+    calls::walk(rt)?;
+    samples::walk(rt)
 }
 
 fn main(rt: LibcRuntime) -> Result<(), AnyError> {
