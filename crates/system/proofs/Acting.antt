@@ -1,9 +1,9 @@
 -- A node acts: its board decides by the load, and what goes out is offered to the network.
 use mathlib.Core.Path.{_≡_, refl, sym, ap, _∙_, subst}
-use mathlib.Core.Bool.{Bool, true, false, cond}
+use mathlib.Core.Bool.{cond}
 use mathlib.Core.Logic.{inl, inr}
 use mathlib.Core.List.{List, [], _∷_, map}
-use Prim.Native.Nat.{ℕ, _+_, _-_, _/_, _%_, _≤_, _<_, min}
+use Prim.Native.Nat.{ℕ, _+_, _-_, _/_, _%_, _≤_, min}
 use native.Mathlib.Omega.{arith}
 use lib.Dec.{leb}
 use lib.ListN.{length, set}
@@ -23,12 +23,11 @@ use Rattle.network.specs.Messages.{Plain, plain, reading, writing}
 use Rattle.lines.specs.declared.types.Acted.{Acted}
 use Rattle.lines.specs.declared.types.ActFault.{ActFault}
 use Rattle.lines.specs.declared.types.ActFault.the-variants as act-fault
-use Rattle.lines.specs.declared.types.LineFault.{LineFault}
 use Rattle.lines.specs.declared.types.LineFault.the-variants.{EveryLineWaits, WrittenTwice}
 use Rattle.lines.specs.Model as board
 use Rattle.lines.specs.Model.{Tables}
 use Rattle.lines.specs.Plain.{plain-acted, plain-refusal, plain-outgoing}
-use Rattle.protocol.specs.Moments.{Moment, is-started, board-at, home-of, waiters, load, with-board, with-bag, Event, act, at, acted, refused}
+use Rattle.protocol.specs.Moments.{Moment, is-started, board-at, waiters, load, with-board, with-bag, act, at, acted, refused}
 use Rattle.protocol.specs.Steps.{Outcome, does, at-node, acts, goes-out, why-not, takes}
 use Rattle.system.specs.declared.fault.SystemFault.{SystemFault}
 use Rattle.system.specs.Faults.{refusal-of, whole-fault}

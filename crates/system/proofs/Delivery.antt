@@ -1,16 +1,14 @@
 -- A delivery: the network gives a message, and takes what is offered to it.
 use mathlib.Core.Path.{_≡_, refl, sym, ap, _∙_, subst}
-use mathlib.Core.Bool.{Bool, true, false}
 use mathlib.Core.Logic.{_⊎_, inl, inr}
-use mathlib.Core.List.{List, [], _∷_, map}
+use mathlib.Core.List.{List, map}
 use Prim.Native.Nat.{ℕ}
-use lib.ListN.{set}
 use Rattle.std.specs.Options.{mapped}
 use Rattle.std.specs.Orderings.{When}
 use Rattle.std.specs.declared.option.Option.{Option}
 use Rattle.std.specs.declared.option.Option.the-variants.{Some, None}
 use Rattle.std.specs.declared.result.Result.{Result}
-use Rattle.std.specs.declared.result.Result.the-variants.{Ok, Err}
+use Rattle.std.specs.declared.result.Result.the-variants.{Err}
 use Rattle.std.proofs.shelf.Tests.{cond-true, cond-false}
 use Rattle.network.specs.declared.message.Kind.{Kind}
 use Rattle.network.specs.declared.message.Kind.the-variants as kind
@@ -21,12 +19,10 @@ use Rattle.network.specs.Messages.{Plain, plain}
 use Rattle.home.specs.declared.cell.Cell.{Cell}
 use Rattle.home.specs.declared.cell.WrittenTwice.{WrittenTwice}
 use Rattle.home.specs.Cells as home
-use Rattle.home.specs.declared.replies.Replies.{Replies}
-use Rattle.home.specs.Pending.{pending}
 use Rattle.lines.specs.Model.{Tables, replied}
-use Rattle.protocol.specs.Moments.{Moment, is-started, cell-at, board-at, with-board, with-cell, with-bag, Event, deliver, delivered, refused}
+use Rattle.protocol.specs.Moments.{Moment, is-started, cell-at, board-at, with-board, with-bag, Event, deliver, delivered, refused}
 use Rattle.protocol.specs.Moments as layer
-use Rattle.protocol.specs.Steps.{Outcome, refusal, refuse, takes, delivers, brings, at-home, Untouched, does}
+use Rattle.protocol.specs.Steps.{refusal, refuse, takes, delivers, brings, at-home, Untouched}
 use Rattle.system.specs.declared.fault.SystemFault.{SystemFault}
 use Rattle.system.specs.declared.fault.SystemFault.the-variants.{Home}
 use Rattle.system.specs.Faults.{refusal-of}

@@ -1,13 +1,13 @@
 -- A call on one of several boards.
-use mathlib.Core.Path.{_≡_, refl, sym, ap, _∙_}
+use mathlib.Core.Path.{_≡_, refl, ap, _∙_}
 use mathlib.Core.List.{List, [], _∷_, map}
-use Prim.Native.Nat.{ℕ, _<_, _≤_}
+use Prim.Native.Nat.{ℕ, _<_}
 use native.Mathlib.Omega.{arith}
 use lib.ListN.{length, getD, set}
 use Rattle.std.specs.Options.{mapped, Cases}
 use Rattle.std.specs.declared.option.Option.{Option}
 use Rattle.std.specs.declared.option.Option.the-variants.{Some, None}
-use Rattle.std.proofs.shelf.Lists.{map-set, getD-map, getD-past, set-past, length-map}
+use Rattle.std.proofs.shelf.Lists.{map-set, getD-map, getD-past}
 use Rattle.std.proofs.shelf.Tests.{eq-eqb, cond-true, cases-lt}
 use mathlib.Core.Bool.{cond}
 use mathlib.Core.Logic.{inl, inr}

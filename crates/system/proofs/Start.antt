@@ -20,7 +20,7 @@ use Rattle.lines.specs.declared.board.Board.{Board}
 use Rattle.lines.specs.Boards.{tables}
 use Rattle.lines.specs.Model.{Tables}
 use Rattle.lines.specs.Model as board
-use Rattle.protocol.specs.Moments.{Moment, is-started, unused, start, started, refused}
+use Rattle.protocol.specs.Moments.{Moment, is-started, start, started, refused}
 use Rattle.protocol.specs.Moments as layer
 use Rattle.protocol.specs.Steps.{Reached, new, outside, refusal, takes}
 use Rattle.system.specs.Through.{Done}

@@ -1,24 +1,22 @@
 -- A call is carried out: from what it does to the memory and to its network.
 use mathlib.Core.Path.{_≡_, refl, sym, ap, _∙_, subst}
 use mathlib.Core.Bool.{true, false}
-use mathlib.Core.List.{List, [], map}
+use mathlib.Core.List.{List, map}
 use Prim.Native.Nat.{ℕ}
 use lib.Dec.{eqb}
-use lib.ListN.{getD, set}
+use lib.ListN.{set}
 use Rattle.std.specs.Options.{mapped}
-use Rattle.std.specs.declared.option.Option.{Option}
 use Rattle.std.specs.declared.option.Option.the-variants.{None}
 use Rattle.std.specs.declared.result.Result.{Result}
-use Rattle.std.specs.declared.result.Result.the-variants.{Ok, Err}
+use Rattle.std.specs.declared.result.Result.the-variants.{Err}
 use Rattle.std.proofs.shelf.Lists.{set-getD}
 use Rattle.std.proofs.shelf.Tests.{ne-eqb, eq-eqb, not-from-false, not-from-true}
 use Rattle.network.specs.declared.network.Network.{Ghosts}
 use Rattle.network.specs.Bags.{Offered}
-use Rattle.network.specs.Messages.{Plain, plain}
+use Rattle.network.specs.Messages.{plain}
 use Rattle.lines.specs.Model.{Tables, start}
 use Rattle.protocol.specs.Moments.{Moment, is-started, board-at, Call, Event, refused, with-bag, with-board}
 use Rattle.protocol.specs.Steps.{does, takes, refuse, Asks, Step}
-use Rattle.protocol.specs.Laws.{Carried}
 use Rattle.protocol.proofs.Laws.{law-of-runs}
 use Rattle.system.specs.declared.fault.SystemFault.{SystemFault}
 use Rattle.system.specs.Faults.{refusal-of}

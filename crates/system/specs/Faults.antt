@@ -1,14 +1,12 @@
 -- What each refusal is: its number, its layer, and the node and the address that it names.
 use Prim.Native.Nat.{ℕ}
 use Rattle.std.specs.declared.option.Option.the-variants.{Some, None}
-use Rattle.lines.specs.declared.types.LineFault.{LineFault}
 use Rattle.lines.specs.declared.types.LineFault.the-variants.{EveryLineWaits, WrittenTwice}
 use Rattle.lines.specs.declared.types.ActFault.{ActFault}
 use Rattle.lines.specs.declared.types.ActFault.the-variants as act
 use Rattle.protocol.specs.Moments.{Refusal}
 use Rattle.protocol.specs.Moments as layer
 use Rattle.protocol.specs.Steps.{refusal}
-use Rattle.system.specs.declared.fault.CreateFault.{CreateFault}
 use Rattle.system.specs.declared.fault.CreateFault.the-variants as array
 use Rattle.system.specs.declared.fault.SystemFault.{SystemFault}
 use Rattle.system.specs.declared.fault.SystemFault.the-variants.{NotStarted, StartedAlready, BadSize, NetworkUnfit, NoSuchNode, NoSuchAddress, NoSuchCommand, NotDrawn, PlacesTaken, WritesHeld, NetworkFull, NothingInTransit, NothingReady, Lines, Home, Array}

@@ -1,8 +1,7 @@
-use mathlib.Core.Path.{_≡_, sym, _∙_, subst}
-use Prim.Native.Nat.{_≤_, _<_, _*_, _-_}
+use mathlib.Core.Path.{_∙_, subst}
+use Prim.Native.Nat.{_≤_, _<_}
 use native.Mathlib.Omega.{arith}
-use lib.ListN.{length, set}
-use Rattle.std.specs.shelf.Lists.{sumBy}
+use lib.ListN.{length}
 use Rattle.std.proofs.shelf.Lists.{length-set}
 use Rattle.std.proofs.shelf.Sums.{sumBy-set, getD-le-sumBy}
 use Rattle.home.specs.declared.cell.Cell.the-variants.{Undefined}

@@ -1,4 +1,4 @@
-use mathlib.Core.Path.{_≡_, _∙_, ap, sym, refl, subst}
+use mathlib.Core.Path.{_∙_, sym, refl, subst}
 use mathlib.Core.List.{map}
 use Prim.Native.Nat.{_+_}
 use lib.ListN.{set}
@@ -10,11 +10,10 @@ use Rattle.lines.specs.Boards.{tables}
 use Rattle.lines.specs.Model as board
 use Rattle.lines.specs.Plain.{plain-outgoing}
 use Rattle.protocol.specs.Moments.{act, board-at}
-use Rattle.protocol.specs.Steps.{goes-out}
 use Rattle.system.specs.Systems.{moment}
 use Rattle.system.specs.Through.{Offers}
 use Rattle.system.proofs.Acting.{acts-on, acts-not, goes-so}
-use Rattle.system.proofs.Numbers.{named, named-so}
+use Rattle.system.proofs.Numbers.{named-so}
 use Rattle.system.proofs.Steps.{stopped, with-boards}
 use Rattle.system.proofs.system.System.act.Needs as need
 

@@ -1,8 +1,8 @@
-use mathlib.Core.Path.{_≡_, _∙_, ap, sym, refl}
+use mathlib.Core.Path.{_∙_, sym, refl}
 use Rattle.std.proofs.shelf.Results.{err-from-errBy}
 use Rattle.std.proofs.shelf.Tests.{cond-true, cond-false}
-use Rattle.lines.specs.Model.{is-drawn, finished}
-use Rattle.protocol.specs.Moments.{finish, board-at, place-at}
+use Rattle.lines.specs.Model.{is-drawn}
+use Rattle.protocol.specs.Moments.{finish, place-at}
 use Rattle.system.specs.Systems.{moment}
 use Rattle.system.proofs.Steps.{quiet-board, unmoved, stopped}
 use Rattle.system.proofs.system.System.finish.Needs as need

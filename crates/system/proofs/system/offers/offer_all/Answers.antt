@@ -1,5 +1,5 @@
-use mathlib.Core.Path.{_≡_, _∙_, ap, sym, refl, subst}
-use mathlib.Core.List.{[], map}
+use mathlib.Core.Path.{_∙_, ap, sym, refl, subst}
+use mathlib.Core.List.{map}
 use Rattle.network.specs.Bags.{Joins, Offered}
 use Rattle.network.specs.Messages.{plain}
 use Rattle.home.specs.Pending.{pending}

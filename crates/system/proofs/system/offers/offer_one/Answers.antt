@@ -1,4 +1,4 @@
-use mathlib.Core.Path.{_≡_, ap, refl}
+use mathlib.Core.Path.{ap, refl}
 use mathlib.Core.List.{[], map}
 use Rattle.std.specs.Options.{mapped}
 use Rattle.std.specs.Vec.{listOf}

@@ -1,1 +1,0 @@
-use Rattle.system.proofs.system.System.message.Needs as need

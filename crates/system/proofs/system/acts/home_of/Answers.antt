@@ -1,1 +1,0 @@
-use Rattle.system.proofs.system.acts.home_of.Needs as need

@@ -1,1 +1,0 @@
-use Rattle.system.proofs.system.acts.whole.Needs as need

@@ -1,1 +1,0 @@
-use Rattle.system.proofs.system.offers.offer.Needs as need
