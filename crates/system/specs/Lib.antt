@@ -3,3 +3,4 @@ pub mod Systems
 pub mod Through
 pub mod Parked
 pub mod Told
+pub mod Undrawn

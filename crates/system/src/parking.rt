@@ -33,7 +33,8 @@ fn is_parked(rows: &[[bool; 32]], node: usize, place: usize) -> bool
 
 fn mark(rows: &mut [[bool; 32]], node: usize, place: usize, parked: bool)
     requires { ⌜ node < length (now rows) ⌝ ∗ ⌜ place < 32 ⌝ }
-    ensures { λ _. ⌜ now (rows .exit) ≡ parking (now (rows .entry)) node place parked ⌝ }
+    ensures rows { λ _. ⌜ now (rows .exit) ≡ parking (now (rows .entry)) node place parked ⌝ }
+    ensures there { λ _. ⌜ is-parked (now (rows .exit)) node place ≡ parked ⌝ }
 {
     let mut row = rows[node];
     row[place] = parked;
@@ -51,7 +52,8 @@ impl Parking {
 
     // Keeps a token's node and place.
     pub fn park(&mut self, drawn: Drawn)
-        ensures { λ _. ⌜ now (self .exit) .places ≡ parking (now (self .entry) .places) (drawn .node) (drawn .place) true ⌝ }
+        ensures places { λ _. ⌜ now (self .exit) .places ≡ parking (now (self .entry) .places) (drawn .node) (drawn .place) true ⌝ }
+        ensures there { λ _. ⌜ is-parked (now (self .exit) .places) (drawn .node) (drawn .place) ≡ true ⌝ }
     {
         let Drawn { node, place } = drawn;
         mark(&mut self.places, node, place, true);

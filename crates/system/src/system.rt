@@ -27,3 +27,4 @@ mod drawing;
 mod offers;
 mod requests;
 mod start;
+mod undrawn;

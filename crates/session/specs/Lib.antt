@@ -1,0 +1,4 @@
+pub mod Faults
+pub mod Drawn
+pub mod Sessions
+pub mod Results
