@@ -27,3 +27,5 @@ pub impl From<SystemFault> for ArrayFault as ArrayFromSystem {
         ArrayFault::System(fault)
     }
 }
+
+mod refusal;

@@ -5,7 +5,8 @@ use mathlib.Core.List.{List, [], _∷_}
 use Prim.Native.Nat.{ℕ, _+_, _≤_, _<_}
 use lib.Dec.{eqb}
 use lib.ListN.{length}
-use Rattle.lines.specs.Model.{Read, Place, free, held, deferred, ready, drawn, Line, empty, waiting, filled, Command, reading, writing, Tables, place-at, line-at, read-of, waits, writes}
+use Rattle.lines.specs.Model.{Place, free, held, deferred, ready, drawn, Line, empty, waiting, filled, Command, reading, writing}
+use Rattle.lines.specs.Model.{Tables, place-at, line-at, read-of, waits, writes}
 
 -- how often a list names p
 abbrev pub times : ℕ → List ℕ → ℕ

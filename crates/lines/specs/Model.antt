@@ -50,7 +50,15 @@ pub record Tables : Type 0 where
 
 -- a new board: the first place to be given is 0
 abbrev pub start : ℕ → Tables
-start n = record { commands = []; places = replicate 32 free; last = 31; lines = replicate n empty; hand = 0; order = [] }
+start n =
+    record {
+      commands = [];
+      places = replicate 32 free;
+      last = 31;
+      lines = replicate n empty;
+      hand = 0;
+      order = [];
+    }
 
 abbrev pub place-at : Tables → ℕ → Place
 place-at t p = getD (t .places) p free
@@ -98,14 +106,30 @@ free-place t = firstRound (λ i. is-free (place-at t i)) 32 (after 32 (t .last))
 
 abbrev pub given : Tables → Read → Option ℕ → Tables
 given t q None = t
-given t q (Some p) = record { commands = t .commands ++ reading p ∷ []; places = set (t .places) p (held q); last = p; lines = t .lines; hand = t .hand; order = t .order }
+given t q (Some p) =
+    record {
+      commands = t .commands ++ reading p ∷ [];
+      places = set (t .places) p (held q);
+      last = p;
+      lines = t .lines;
+      hand = t .hand;
+      order = t .order;
+    }
 
 -- write: 32 at most
 abbrev pub may-write : Tables → Bool
 may-write t = ltb (writes (t .commands)) 32
 
 abbrev pub written : Tables → ℕ → ℕ → Tables
-written t a v = record { commands = t .commands ++ writing a v ∷ []; places = t .places; last = t .last; lines = t .lines; hand = t .hand; order = t .order }
+written t a v =
+    record {
+      commands = t .commands ++ writing a v ∷ [];
+      places = t .places;
+      last = t .last;
+      lines = t .lines;
+      hand = t .hand;
+      order = t .order;
+    }
 
 -- what the lines say of an address
 pub data Found : Type 0 where
@@ -145,11 +169,22 @@ or-else None o = o
 or-else (Some i) o = Some i
 
 abbrev pub claimed : Tables → Option ℕ
-claimed t = or-else (firstRound (λ i. is-empty (line-at t i)) (length (t .lines)) (t .hand)) (firstRound (λ i. is-filled (line-at t i)) (length (t .lines)) (t .hand))
+claimed t =
+    or-else
+    (firstRound (λ i. is-empty (line-at t i)) (length (t .lines)) (t .hand))
+    (firstRound (λ i. is-filled (line-at t i)) (length (t .lines)) (t .hand))
 
 -- a claimed line, and the hand on the line after it
 abbrev pub claiming : Tables → ℕ → Line → Tables
-claiming t i l = record { commands = t .commands; places = t .places; last = t .last; lines = set (t .lines) i l; hand = after (length (t .lines)) i; order = t .order }
+claiming t i l =
+    record {
+      commands = t .commands;
+      places = t .places;
+      last = t .last;
+      lines = set (t .lines) i l;
+      hand = after (length (t .lines)) i;
+      order = t .order;
+    }
 
 -- places that wait get their word, one after another
 abbrev pub woken : ℕ → List Place → List ℕ → List Place
@@ -158,7 +193,15 @@ woken v places (p ∷ ps) = woken v (set places p (ready (read-of (getD places p
 
 -- the word v of the address a comes to line i: its places become ready, oldest first
 abbrev pub filling : Tables → ℕ → ℕ → ℕ → Tables
-filling t i a v = record { commands = t .commands; places = woken v (t .places) (waits (line-at t i)); last = t .last; lines = set (t .lines) i (filled a v); hand = t .hand; order = t .order ++ waits (line-at t i) }
+filling t i a v =
+    record {
+      commands = t .commands;
+      places = woken v (t .places) (waits (line-at t i));
+      last = t .last;
+      lines = set (t .lines) i (filled a v);
+      hand = t .hand;
+      order = t .order ++ waits (line-at t i);
+    }
 
 -- reply: only a waiting line takes the word
 pub record Count : Type 0 where
@@ -199,14 +242,30 @@ refused t e = record { answer = Err e; after = t }
 
 -- command k is used up
 abbrev pub used : Tables → ℕ → Tables
-used t k = record { commands = removed (t .commands) k; places = t .places; last = t .last; lines = t .lines; hand = t .hand; order = t .order }
+used t k =
+    record {
+      commands = removed (t .commands) k;
+      places = t .places;
+      last = t .last;
+      lines = t .lines;
+      hand = t .hand;
+      order = t .order;
+    }
 
 abbrev pub taken : Tables → ℕ → ℕ → Option Outgoing → Step
 taken t k readied sends = record { answer = Ok (record { readied = readied; sends = sends }); after = used t k }
 
 -- the place p waits with the read q
 abbrev pub deferring : Tables → ℕ → Read → Tables
-deferring t p q = record { commands = t .commands; places = set (t .places) p (deferred q); last = t .last; lines = t .lines; hand = t .hand; order = t .order }
+deferring t p q =
+    record {
+      commands = t .commands;
+      places = set (t .places) p (deferred q);
+      last = t .last;
+      lines = t .lines;
+      hand = t .hand;
+      order = t .order;
+    }
 
 -- the place p joins the end of a waiting line's list
 abbrev pub joined : ℕ → Line → Line
@@ -215,16 +274,35 @@ joined p (waiting a ps) = waiting a (ps ++ p ∷ [])
 joined p (filled a v) = filled a v
 
 abbrev pub joining : Tables → ℕ → ℕ → Tables
-joining t i p = record { commands = t .commands; places = t .places; last = t .last; lines = set (t .lines) i (joined p (line-at t i)); hand = t .hand; order = t .order }
+joining t i p =
+    record {
+      commands = t .commands;
+      places = t .places;
+      last = t .last;
+      lines = set (t .lines) i (joined p (line-at t i));
+      hand = t .hand;
+      order = t .order;
+    }
 
 -- the place p becomes ready, behind the others
 abbrev pub readying : Tables → ℕ → Read → ℕ → Tables
-readying t p q v = record { commands = t .commands; places = set (t .places) p (ready q v); last = t .last; lines = t .lines; hand = t .hand; order = t .order ++ p ∷ [] }
+readying t p q v =
+    record {
+      commands = t .commands;
+      places = set (t .places) p (ready q v);
+      last = t .last;
+      lines = t .lines;
+      hand = t .hand;
+      order = t .order ++ p ∷ [];
+    }
 
 -- a read with no line: the line claimed, if any, where the load leaves room for a READ and its REPLY
 abbrev pub read-claims : ℕ → Tables → ℕ → ℕ → Read → ℕ → ℕ → Option ℕ → Step
 read-claims n t k p q load limit None = refused t (every-line-waits n (q .address))
-read-claims n t k p q load limit (Some i) = cond (leb (limit - 1) load) (refused t (network-full (q .address))) (taken (deferring (claiming t i (waiting (q .address) (p ∷ []))) p q) k 0 (Some (asks (q .address))))
+read-claims n t k p q load limit (Some i) =
+    cond (leb (limit - 1) load)
+    (refused t (network-full (q .address)))
+    (taken (deferring (claiming t i (waiting (q .address) (p ∷ []))) p q) k 0 (Some (asks (q .address))))
 
 abbrev pub read-finds : ℕ → Tables → ℕ → ℕ → Read → ℕ → ℕ → Found → Step
 read-finds n t k p q load limit absent = read-claims n t k p q load limit (claimed t)
@@ -237,13 +315,20 @@ filling-new t a v None = t
 filling-new t a v (Some i) = claiming t i (filled a v)
 
 abbrev pub write-finds : ℕ → Tables → ℕ → ℕ → ℕ → ℕ → ℕ → Found → Step
-write-finds n t k a v load limit absent = cond (leb limit load) (refused t (network-full a)) (taken (filling-new t a v (claimed t)) k 0 (Some (gives a v)))
-write-finds n t k a v load limit (waits-at i) = cond (leb limit load) (refused t (network-full a)) (taken (filling t i a v) k (length (waits (line-at t i))) (Some (gives a v)))
+write-finds n t k a v load limit absent =
+    cond (leb limit load)
+    (refused t (network-full a))
+    (taken (filling-new t a v (claimed t)) k 0 (Some (gives a v)))
+write-finds n t k a v load limit (waits-at i) =
+    cond (leb limit load)
+    (refused t (network-full a))
+    (taken (filling t i a v) k (length (waits (line-at t i))) (Some (gives a v)))
 write-finds n t k a v load limit (holds u) = record { answer = Err (written-twice n a); after = used t k }
 
 abbrev pub act-on : ℕ → Tables → ℕ → ℕ → ℕ → Option Command → Step
 act-on n t k load limit None = refused t no-such-command
-act-on n t k load limit (Some (reading p)) = read-finds n t k p (read-of (place-at t p)) load limit (found (read-of (place-at t p) .address) 0 (t .lines))
+act-on n t k load limit (Some (reading p)) =
+    read-finds n t k p (read-of (place-at t p)) load limit (found (read-of (place-at t p) .address) 0 (t .lines))
 act-on n t k load limit (Some (writing a v)) = write-finds n t k a v load limit (found a 0 (t .lines))
 
 -- command k of node n, oldest 0, at a load of the network and its limit
@@ -262,7 +347,15 @@ first-ready t (p ∷ ps) = Some (record { place = p; read = read-of (place-at t 
 
 abbrev pub drawing : Tables → List ℕ → Tables
 drawing t [] = t
-drawing t (p ∷ ps) = record { commands = t .commands; places = set (t .places) p (drawn (read-of (place-at t p)) (word-of (place-at t p))); last = t .last; lines = t .lines; hand = t .hand; order = ps }
+drawing t (p ∷ ps) =
+    record {
+      commands = t .commands;
+      places = set (t .places) p (drawn (read-of (place-at t p)) (word-of (place-at t p)));
+      last = t .last;
+      lines = t .lines;
+      hand = t .hand;
+      order = ps;
+    }
 
 -- finish and put back: only a drawn place
 abbrev pub is-drawn : Place → Bool
@@ -273,7 +366,15 @@ is-drawn (ready q v) = false
 is-drawn (drawn q v) = true
 
 abbrev pub freeing : Tables → ℕ → Tables
-freeing t p = record { commands = t .commands; places = set (t .places) p free; last = t .last; lines = t .lines; hand = t .hand; order = t .order }
+freeing t p =
+    record {
+      commands = t .commands;
+      places = set (t .places) p free;
+      last = t .last;
+      lines = t .lines;
+      hand = t .hand;
+      order = t .order;
+    }
 
 abbrev pub finished : Tables → ℕ → Tables
 finished t p = cond (is-drawn (place-at t p)) (freeing t p) t

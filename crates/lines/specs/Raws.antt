@@ -6,4 +6,12 @@ use Rattle.lines.specs.Model.{Tables}
 use Rattle.lines.specs.Plain.{plain-command, plain-place, plain-line}
 
 abbrev pub raw-tables : RawBoard → Tables
-raw-tables b = record { commands = map plain-command (listed (b .commands)); places = map plain-place (b .places); last = b .last; lines = map plain-line (listed (b .lines)); hand = b .hand; order = listed (b .order) }
+raw-tables b =
+    record {
+      commands = map plain-command (listed (b .commands));
+      places = map plain-place (b .places);
+      last = b .last;
+      lines = map plain-line (listed (b .lines));
+      hand = b .hand;
+      order = listed (b .order);
+    }

@@ -10,15 +10,18 @@ use Rattle.lines.specs.Model.{Read}
 use Rattle.lines.specs.Facts.{Facts}
 use Rattle.protocol.specs.Moments.{Moment, board-at, cell-at, transit, load, Call, Event, at, drew}
 use Rattle.protocol.specs.Steps.{Step, Reached}
-use Rattle.protocol.specs.Counts.{sum-to, reads-accepted, reads-finished, reads-in, State, Held, Deferred, Ready, Drawn, writes-accepted, given, reported, is-writing, is-write-to, stored}
+use Rattle.protocol.specs.Counts.{sum-to, reads-accepted, reads-finished, reads-in, Held, Deferred, Ready, Drawn}
+use Rattle.protocol.specs.Counts.{writes-accepted, given, reported, is-writing, is-write-to, stored}
 
 -- no read is lost, doubled or made up: for each board, address and continuation
 abbrev pub Reads-balance : List Event → Moment → Type 0
-Reads-balance h m = (n : ℕ) (q : Read) → reads-accepted n q h ≡ reads-in Held m n q + reads-in Deferred m n q + reads-in Ready m n q + reads-in Drawn m n q + reads-finished n q h
+Reads-balance h m = (n : ℕ) (q : Read) → reads-accepted n q h ≡
+    reads-in Held m n q + reads-in Deferred m n q + reads-in Ready m n q + reads-in Drawn m n q + reads-finished n q h
 
 -- each word that a draw answered was given to that address by a write accepted earlier
 abbrev pub Draws-given : List Event → Type 0
-Draws-given h = (later : List Event) (n p v : ℕ) (q : Read) (earlier : List Event) → h ≡ later ++ (at n (drew p q v) ∷ earlier) → 1 ≤ given (q .address) v earlier
+Draws-given h = (later : List Event) (n p v : ℕ) (q : Read) (earlier : List Event) →
+    h ≡ later ++ (at n (drew p q v) ∷ earlier) → 1 ≤ given (q .address) v earlier
 
 -- no command held and nothing in transit
 abbrev pub Quiet : Moment → Type 0
@@ -30,7 +33,7 @@ Deferred-unwritten h m = Quiet m → (n : ℕ) (q : Read) → n < m .nodes →
     (writes-accepted (q .address) h ≡ 0 → reads-in Deferred m n q ≡ reads-accepted n q h)
     × (1 ≤ writes-accepted (q .address) h → reads-in Deferred m n q ≡ 0)
 
--- no write is lost, doubled or made up: held, in transit, stored at home, or reported as written twice
+-- no write is lost, doubled or made up: held, in transit, stored at home (a cell stores one at most), or reported as written twice
 abbrev pub Writes-balance : List Event → Moment → Type 0
 Writes-balance h m = (a : ℕ) → writes-accepted a h ≡
     sum-to (m .nodes) (λ n. sumBy (is-writing a) (board-at m n .commands)) + sumBy (is-write-to a) (transit m) + stored (cell-at m a) + reported a h

@@ -6,10 +6,14 @@ ghost use lib.Dec.{eqb, ltb};
 ghost use lib.ListN.{length, getD, take, drop};
 ghost use Rattle.std.specs.Reads.{Digits as AllDigits, value as numberOf};
 ghost use Rattle.std.specs.Numbers.{Converted};
+ghost use Rattle.std.specs.Options.{Cases as BySome};
 ghost use Rattle.std.specs.Results.{Cases};
 ghost use Rattle.script.specs.Texts.{NoDigit, Front, NoFront};
 use crate::fault::NotALine;
 use std::str::from_utf8;
+
+// With one digit more, a number below this still has at most 64 bits.
+const NEAR: u64 = 1_000_000_000_000_000_000;
 
 // How many digits stand at the front.
 fn digits(text: &[u8]) -> usize
@@ -24,8 +28,23 @@ fn digits(text: &[u8]) -> usize
     count
 }
 
-// The number that digits write, where it has at most 64 bits.
-fn value(digits: &[u8]) -> Result<u64, NotALine>
+// The number that digits write, unless it comes near the largest.
+fn quick(digits: &[u8]) -> Option<u64>
+    requires { ⌜ AllDigits 10 (now digits) ⌝ }
+    ensures { λ r. ⌜ BySome r (Unit {0}) (λ n. (n ≡ numberOf 10 (now (digits .entry))) × (n < 2 ^ 64)) ⌝ }
+{
+    let mut n: u64 = 0;
+    for digit in digits {
+        if n >= NEAR {
+            return None;
+        }
+        n = n * 10 + u64::from(*digit - b'0');
+    }
+    Some(n)
+}
+
+// The number that digits write, where it has at most 64 bits, by a reader that knows where they end.
+fn parsed(digits: &[u8]) -> Result<u64, NotALine>
     requires { ⌜ AllDigits 10 (now digits) ⌝ }
     ensures { λ r. ⌜ Converted r ((0 < length (now (digits .entry))) × (numberOf 10 (now (digits .entry)) < 2 ^ 64)) (numberOf 10 (now (digits .entry))) ⌝ }
 {
@@ -36,6 +55,19 @@ fn value(digits: &[u8]) -> Result<u64, NotALine>
         Ok(n) => Ok(n),
         Err(_) => Err(NotALine),
     }
+}
+
+// The number that digits write, where it has at most 64 bits.
+fn value(digits: &[u8]) -> Result<u64, NotALine>
+    requires { ⌜ AllDigits 10 (now digits) ⌝ }
+    ensures { λ r. ⌜ Converted r ((0 < length (now (digits .entry))) × (numberOf 10 (now (digits .entry)) < 2 ^ 64)) (numberOf 10 (now (digits .entry))) ⌝ }
+{
+    if digits.len() > 0 {
+        if let Some(n) = quick(digits) {
+            return Ok(n);
+        }
+    }
+    parsed(digits)
 }
 
 // A zero with more digits behind it.

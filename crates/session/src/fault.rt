@@ -1,6 +1,7 @@
 // Why a line is refused. What the memory says is carried whole.
 ghost use mathlib.Core.Path.{_≡_};
-ghost use Rattle.session.specs.declared.fault.SessionFault.the-variants.{NotALine as no-line, System as by-system};
+ghost use Rattle.session.specs.declared.fault.SessionFault.the-variants.{NotALine as no-line, System as by-system, Array as by-array};
+use array::ArrayFault;
 use script::NotALine;
 use system::SystemFault;
 
@@ -8,6 +9,7 @@ use system::SystemFault;
 pub enum SessionFault {
     NotALine,
     System(SystemFault),
+    Array(ArrayFault),
 }
 
 pub impl From<NotALine> for SessionFault as SessionFromLine {
@@ -23,6 +25,15 @@ pub impl From<SystemFault> for SessionFault as SessionFromSystem {
 
     fn from(fault: SystemFault) -> SessionFault {
         SessionFault::System(fault)
+    }
+}
+
+// No line reads or writes an array by index: this is for what is driven beside the lines.
+pub impl From<ArrayFault> for SessionFault as SessionFromArray {
+    ghost converts = { λ fault whole. whole ≡ by-array fault };
+
+    fn from(fault: ArrayFault) -> SessionFault {
+        SessionFault::Array(fault)
     }
 }
 

@@ -1,10 +1,7 @@
-// Walks one cell's life over each network (each message as it arrives, and the cell after it), then one board's,
-// the nine calls, and an array of samples.
-mod calls;
+// Walks one cell's life over each network (each message as it arrives, and the cell after it), and then one board's.
 mod desk;
 mod life;
 mod limits;
-mod samples;
 mod stack;
 
 use life::blank;
@@ -31,9 +28,7 @@ fn run(rt: &LibcRuntime) -> Result<(), AnyError> {
     walk(rt, "a delay over a twin of pool and lanes", pile)?;
     let stack = Stack::new(blank()?);
     walk(rt, "a stack, written outside the network crate", stack)?;
-    desk::walk(rt)?;
-    calls::walk(rt)?;
-    samples::walk(rt)
+    desk::walk(rt)
 }
 
 fn main(rt: LibcRuntime) -> Result<(), AnyError> {

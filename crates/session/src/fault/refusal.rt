@@ -39,6 +39,7 @@ impl SessionFault {
         match self {
             SessionFault::NotALine => Refusal::from(NotALine),
             SessionFault::System(fault) => scripted(fault.refusal()),
+            SessionFault::Array(fault) => scripted(fault.refusal()),
         }
     }
 }

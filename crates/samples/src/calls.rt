@@ -3,6 +3,7 @@ use lines::Answer;
 use network::Pool;
 use network::PoolNetwork;
 use std::error::AnyError;
+use system::Refusal;
 use system::System;
 use system::SystemFault;
 
@@ -42,8 +43,7 @@ const CALLS: [Call; 20] = [
     Call::Read(0, 4, 7, 3),
 ];
 
-pub(crate) fn refused(rt: &LibcRuntime, fault: SystemFault) -> Result<(), AnyError> {
-    let refusal = fault.refusal();
+pub(crate) fn refused(rt: &LibcRuntime, refusal: Refusal) -> Result<(), AnyError> {
     let number = refusal.number;
     print!(rt, "refused, {number}")?;
     if let Some(node) = refusal.node {
@@ -62,7 +62,7 @@ fn told(rt: &LibcRuntime, answer: Result<(), SystemFault>) -> Result<(), AnyErro
             println!(rt, "done")?;
             Ok(())
         }
-        Err(fault) => refused(rt, fault),
+        Err(fault) => refused(rt, fault.refusal()),
     }
 }
 
@@ -72,7 +72,7 @@ fn counted(rt: &LibcRuntime, answer: Result<usize, SystemFault>) -> Result<(), A
             println!(rt, "{number}")?;
             Ok(())
         }
-        Err(fault) => refused(rt, fault),
+        Err(fault) => refused(rt, fault.refusal()),
     }
 }
 
@@ -100,7 +100,7 @@ fn draw_and_finish(rt: &LibcRuntime, system: &mut System<Pool>, node: u64) -> Re
             print!(rt, "  finish: ")?;
             told(rt, finished)
         }
-        Err(fault) => refused(rt, fault),
+        Err(fault) => refused(rt, fault.refusal()),
     }
 }
 
@@ -118,7 +118,7 @@ fn draw_and_put_back(
             print!(rt, "  put back: ")?;
             told(rt, put_back)
         }
-        Err(fault) => refused(rt, fault),
+        Err(fault) => refused(rt, fault.refusal()),
     }
 }
 

@@ -1,6 +1,5 @@
 // An array of samples that are read before they are written, by other boards, and printed as they are drawn.
 use crate::calls::refused;
-use array::ArrayFault;
 use array::ArrayRef;
 use array::SampleElement;
 use array::open_answer;
@@ -17,31 +16,13 @@ const SAMPLES: [f32; 4] = [0.5, -1.25, 3.0, 100.0];
 // The most messages that are delivered in one go.
 const DELIVERIES: u64 = 64;
 
-fn fault(rt: &LibcRuntime, fault: ArrayFault) -> Result<(), AnyError> {
-    match fault {
-        ArrayFault::System(fault) => refused(rt, fault),
-        ArrayFault::NotAnElement => {
-            println!(rt, "refused, 7")?;
-            Ok(())
-        }
-        ArrayFault::NoSuchIndex => {
-            println!(rt, "refused, 8")?;
-            Ok(())
-        }
-        ArrayFault::OtherKind => {
-            println!(rt, "refused, 9")?;
-            Ok(())
-        }
-    }
-}
-
 // Board 0 asks for every sample; the last index is one too far.
 fn read_all(rt: &LibcRuntime, system: &mut System<Pool>, array: ArrayRef) -> Result<(), AnyError> {
     for index in 0..5u64 {
         print!(rt, "  board 0 reads sample {index}: ")?;
         match read_element::<f32, Pool>(system, 0, array, index, 1, index as u32) {
             Ok(place) => println!(rt, "place {place}")?,
-            Err(why) => fault(rt, why)?,
+            Err(why) => refused(rt, why.refusal())?,
         }
         let _ = system.act(0, 0);
     }
@@ -56,7 +37,7 @@ fn write_all(rt: &LibcRuntime, system: &mut System<Pool>, array: ArrayRef) -> Re
         print!(rt, "  board {node} writes sample {index}, {sample}: ")?;
         match write_element::<f32, Pool>(system, node, array, index as u64, sample) {
             Ok(()) => println!(rt, "done")?,
-            Err(why) => fault(rt, why)?,
+            Err(why) => refused(rt, why.refusal())?,
         }
         let _ = system.act(node, 0);
     }
@@ -94,7 +75,7 @@ fn draw_all(rt: &LibcRuntime, system: &mut System<Pool>) -> Result<(), AnyError>
         print!(rt, "  board 0 draws sample {index}: ")?;
         match open_answer::<f32>(answer) {
             Ok(sample) => println!(rt, "{sample}")?,
-            Err(why) => fault(rt, why)?,
+            Err(why) => refused(rt, why.refusal())?,
         }
     }
     Ok(())
@@ -108,7 +89,7 @@ pub(crate) fn walk(rt: &LibcRuntime) -> Result<(), AnyError> {
     }
     let array = match array::create::<f32, Pool>(&mut system, 4) {
         Ok(array) => array,
-        Err(why) => return fault(rt, why),
+        Err(why) => return refused(rt, why.refusal()),
     };
     read_all(rt, &mut system, array)?;
     deliver_all(&mut system);
