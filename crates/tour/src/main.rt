@@ -1,5 +1,4 @@
-// Walks one cell's life over each network (each message as it arrives, and the cell after it), and then one board's.
-mod desk;
+// Walks one cell's life over each network: each message as it arrives, and the cell after it.
 mod life;
 mod limits;
 mod stack;
@@ -27,8 +26,7 @@ fn run(rt: &LibcRuntime) -> Result<(), AnyError> {
     let pile = Delay::new(Twin::new(Pool::new(), Lanes::new()));
     walk(rt, "a delay over a twin of pool and lanes", pile)?;
     let stack = Stack::new(blank()?);
-    walk(rt, "a stack, written outside the network crate", stack)?;
-    desk::walk(rt)
+    walk(rt, "a stack, written outside the network crate", stack)
 }
 
 fn main(rt: LibcRuntime) -> Result<(), AnyError> {

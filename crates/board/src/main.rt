@@ -1,6 +1,4 @@
 // One board alone: its tables after each step.
-use crate::limits::address;
-use crate::limits::node;
 use lines::Board;
 use lines::CommandDisplay;
 use lines::Continuation;
@@ -10,6 +8,7 @@ use lines::Place;
 use lines::PlaceDisplay;
 use lines::Read;
 use network::Address;
+use network::Node;
 use std::error::AnyError;
 
 // What the network holds and can hold, as far as this board is told.
@@ -103,9 +102,12 @@ fn sent(outgoing: Option<Outgoing>) -> &'static str {
     }
 }
 
-// Acts on the oldest command.
+// Acts on the oldest command, as node 0.
 fn act(rt: &LibcRuntime, board: &mut Board) -> Result<(), AnyError> {
-    match board.act(node(0)?, 0, LOAD, LIMIT) {
+    let Some(node) = Node::new(0) else {
+        return Err("no such node".into());
+    };
+    match board.act(node, 0, LOAD, LIMIT) {
         Ok(done) => {
             let readied = done.readied;
             let sent = sent(done.sends);
@@ -149,12 +151,14 @@ fn put_back(rt: &LibcRuntime, board: &mut Board, place: usize) -> Result<(), Any
 }
 
 // Two reads before the word comes, the write, and what is drawn then: put back once, drawn again, finished.
-pub(crate) fn walk(rt: &LibcRuntime) -> Result<(), AnyError> {
+fn run(rt: &LibcRuntime) -> Result<(), AnyError> {
     println!(rt, "One board with two lines:")?;
     let Some(mut board) = Board::new(2) else {
         return Err("no such board".into());
     };
-    let slice = address(4)?;
+    let Some(slice) = Address::new(4) else {
+        return Err("no such address".into());
+    };
     read(rt, &mut board, slice, 1)?;
     read(rt, &mut board, slice, 2)?;
     act(rt, &mut board)?;
@@ -168,4 +172,8 @@ pub(crate) fn walk(rt: &LibcRuntime) -> Result<(), AnyError> {
     let again = draw(rt, &mut board)?;
     finish(rt, &mut board, again)?;
     finish(rt, &mut board, again)
+}
+
+fn main(rt: LibcRuntime) -> Result<(), AnyError> {
+    rt.report(run(&rt))
 }
