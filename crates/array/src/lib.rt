@@ -1,4 +1,6 @@
 // What the words of a write-once memory stand for: elements of some kind, and arrays of them.
+#![tactic(auto)]
+
 mod calls;
 mod edges;
 mod element;

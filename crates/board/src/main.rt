@@ -1,4 +1,6 @@
 // One board alone: its tables after each step.
+#![tactic(auto)]
+
 use anyhow::anyhow;
 use lines::{Board, Continuation, Outgoing, Place, Read};
 use network::{Address, Node};

@@ -1,4 +1,6 @@
-ghost use Rattle.std.specs.Prelude.{◌≡◌, ◌≤◌, length};
+ghost use Rattle.std.specs.Prelude.{◌≡◌, ◌≤◌, length, ⊤};
+
+use std::alloc::AllocError;
 
 // The answer where there is no room.
 #[derive(Clone, Copy, Debug)]
@@ -13,5 +15,15 @@ pub struct ArrayVec<T, const CAP: usize> {
 }
 
 impl<T: Copy, const CAP: usize> Copy for ArrayVec<T, CAP> {}
+
+impl<T: Copy, const CAP: usize> Clone for ArrayVec<T, CAP> {
+    ghost is_clone = { λ x y. y ≡ x };
+
+    ghost is_infallible = { λ _. ⊤ };
+
+    fn clone(&self) -> Result<Self, AllocError> {
+        Ok(*self)
+    }
+}
 
 mod methods;

@@ -1,5 +1,7 @@
 // Runs the edges of the script that no theorem states: scripts parted by a separator byte, each on an unused memory
 // over the pool, with an empty line after the answers of each.
+#![tactic(auto)]
+
 use network::Pool;
 use script::{Line, LineReader, print_answer};
 use session::Session;

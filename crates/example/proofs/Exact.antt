@@ -4,7 +4,7 @@ use Rattle.std.specs.List.{slice_get, remove}
 use Rattle.std.specs.Option.{option_map}
 use Rattle.std.proofs.lemmas.List.{length-map, map-append, map_push, take-map, drop-map}
 use Rattle.bounded.specs.Listed.{listed}
-use Rattle.network.specs.contracts.pool.PoolNetwork.TheImpl.{ghosts as over-pool}
+use Rattle.network.specs.contracts.pool.PoolNetwork.TheImpl.{ghosts as over_pool}
 use Rattle.network.specs.declared.message.Message.{Message}
 use Rattle.network.specs.declared.pool.Pool.{Pool}
 use Rattle.network.specs.Messages.{Plain, plain}
@@ -47,7 +47,7 @@ once : (b : Bool) (n : Pool) (k : ℕ) (got : Option Message) (rest : Pool) → 
 once true n k got rest h = picked_as n k got rest h
 once false n k got rest h = left_as n got rest h
 
-taken : (m : Moment) (n : Pool) (c : Call) (got : Option Message) (rest : Pool) → Takes over-pool m c n got rest → HandedAs got rest (hands (with_bag m (held n)) c)
+taken : (m : Moment) (n : Pool) (c : Call) (got : Option Message) (rest : Pool) → Takes over_pool m c n got rest → HandedAs got rest (hands (with_bag m (held n)) c)
 taken m n (start _ _ _) got rest h = left_as n got rest h
 taken m n (read _ _) got rest h = left_as n got rest h
 taken m n (write _ _ _) got rest h = left_as n got rest h
@@ -62,7 +62,7 @@ joined : (n : Pool) (x : Message) (next : Pool) (b : Bool) → MatchBool b (Appe
 joined n x next true h = ap (map plain) h ∙ map_push plain (listed n.held) x
 joined n x next false h = ap held h
 
-offered : (n : Pool) (ps : List Plain) (last : Pool) → Offers over-pool n ps last → held last ≡ behind 64 (held n) ps
+offered : (n : Pool) (ps : List Plain) (last : Pool) → Offers over_pool n ps last → held last ≡ behind 64 (held n) ps
 offered n [] last h = ap held h
 offered n (p ∷ ps) last (x, next, e, o, rest) =
     offered next ps last rest
@@ -71,7 +71,7 @@ offered n (p ∷ ps) last (x, next, e, o, rest) =
 
 pub exact : ExactOverPool
 exact s s' c e called =
-    let m = moment over-pool s in
+    let m = moment over_pool s in
     let d = called.made in
     let (got, rest) = taken m s.network c d.got d.rest d.takes in (
       d.says ∙ (λ i. (does m c (got i)).event),

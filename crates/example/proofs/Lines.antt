@@ -5,7 +5,7 @@ use Rattle.std.specs.Fmt.{digits}
 use Rattle.std.proofs.lemmas.List.{length-map, get_or-map, take_all, reverse-append, reverse-reverse}
 use Rattle.std.proofs.ByRecursion.{All-get_or}
 use Rattle.bounded.specs.Listed.{listed}
-use Rattle.network.specs.contracts.pool.PoolNetwork.TheImpl.{ghosts as over-pool}
+use Rattle.network.specs.contracts.pool.PoolNetwork.TheImpl.{ghosts as over_pool}
 use Rattle.network.specs.declared.pool.Pool.{Pool}
 use Rattle.network.specs.Messages.{plain}
 use Rattle.protocol.specs.Moments.{Moment, unused, Call, Event}
@@ -28,12 +28,12 @@ use Rattle.example.proofs.Exact.{exact}
 
 -- what a line that writes a call is told, and what it leaves
 abbrev Computed : Session Pool → Call → Answer → Session Pool → Type 0
-Computed s c a s' = (a ≡ answer_of (pool_says (moment over-pool s.system) c)) × (moment over-pool s'.system ≡ pool_leaves (moment over-pool s.system) c)
+Computed s c a s' = (a ≡ answer_of (pool_says (moment over_pool s.system) c)) × (moment over_pool s'.system ≡ pool_leaves (moment over_pool s.system) c)
 
-answered : (s s' : Session Pool) (c : Call) (a : Answer) → Answered over-pool s.system c a s'.system → Computed s c a s'
+answered : (s s' : Session Pool) (c : Call) (a : Answer) → Answered over_pool s.system c a s'.system → Computed s c a s'
 answered s s' c a h = let (says, leaves) = exact s.system s'.system c h.event h.called in (h.tells ∙ ap answer_of says, leaves)
 
-line : (s s' : Session Pool) (c : script.Call) (bytes : List ℕ) (a : Answer) → Writes c bytes → Answers over-pool s (text bytes) a s' → Computed s (call_of c) a s'
+line : (s s' : Session Pool) (c : script.Call) (bytes : List ℕ) (a : Answer) → Writes c bytes → Answers over_pool s (text bytes) a s' → Computed s (call_of c) a s'
 line s s' c bytes a w (made d v h) = subst (λ x. Computed s (call_of x) a s') (one_call d c bytes v w) (answered s s' (call_of d) a h)
 line s s' c bytes a w (none nothing is same) = absurd (nothing c w)
 
@@ -75,8 +75,8 @@ spoken (suc i) = text (get_or lines i []) ∷ spoken i
 
 -- after i lines
 pub record Going (first : Session Pool) (i : ℕ) (s : Session Pool) (told : List Answer) : Type 0 where
-  pub ran : Ran over-pool first (spoken i) s
-  pub memory : moment over-pool s.system ≡ pool_after 64 (past i)
+  pub ran : Ran over_pool first (spoken i) s
+  pub memory : moment over_pool s.system ≡ pool_after 64 (past i)
   pub tells : reverse (take i told) ≡ map answer_of (pool_history 64 (past i))
 
 -- a memory with no history is unused
@@ -84,13 +84,13 @@ unused_yet : {h : List Event} {m : Moment} → Reached h m → h ≡ [] → m �
 unused_yet (new limit bag) e = refl
 unused_yet (then c r s) e = absurd (let z : ◌≡◌ {A = ℕ} 0 1 = cc in omega arith)
 
-pub fresh : (s : Session Pool) (p : Pool) → Reached [] (moment over-pool s.system) → s.system.network ≡ p → listed p.held ≡ [] → moment over-pool s.system ≡ unused 64 []
+pub fresh : (s : Session Pool) (p : Pool) → Reached [] (moment over_pool s.system) → s.system.network ≡ p → listed p.held ≡ [] → moment over_pool s.system ≡ unused 64 []
 fresh s p r is empty = unused_yet r refl ∙ ap (λ bag. unused 64 (map plain bag)) (ap (λ n. listed n.held) is ∙ empty)
 
-pub begins : (s : Session Pool) (told : List Answer) → moment over-pool s.system ≡ unused 64 [] → Going s 0 s told
+pub begins : (s : Session Pool) (told : List Answer) → moment over_pool s.system ≡ unused 64 [] → Going s 0 s told
 begins s told e = record { ran = no_line; memory = e; tells = refl }
 
-pub goes_on : (first s s' : Session Pool) (i : ℕ) (told : List Answer) (a : Answer) → i < 15 → i < length told → Going first i s told → Answers over-pool s (text (get_or lines i [])) a s'
+pub goes_on : (first s s' : Session Pool) (i : ℕ) (told : List Answer) (a : Answer) → i < 15 → i < length told → Going first i s told → Answers over_pool s (text (get_or lines i [])) a s'
     → Going first (i + 1) s' (set told i a)
 goes_on first s s' i told a lt room g h =
     let (says, leaves) = line s s' (call_at i) (get_or lines i []) a (writes_at i lt) h in
@@ -107,7 +107,7 @@ unfolding digits
 told_all told all e =
     ap (map answer_text) (sym (take_all 15 told (omega (arith, all))) ∙ sym (reverse-reverse (take 15 told)) ∙ ap reverse (e ∙ ap (map answer_of) portal_run.answers))
 
-pub ends : (first s : Session Pool) (i : ℕ) (told : List Answer) → moment over-pool first.system ≡ unused 64 [] → EveryScript over-pool first → i ≡ 15 → length told ≡ 15 → Going first i s told → ExampleSession s told
+pub ends : (first s : Session Pool) (i : ℕ) (told : List Answer) → moment over_pool first.system ≡ unused 64 [] → EveryScript over_pool first → i ≡ 15 → length told ≡ 15 → Going first i s told → ExampleSession s told
 ends first s i told begun laws e all g =
     let end = subst (λ n. Going first n s told) e g in
     record { first = first; fresh = begun; laws = laws; ran = end.ran; tells = told_all told all end.tells; leaves = end.memory }

@@ -1,6 +1,6 @@
 -- The portal's example, run on a session over a pool.
 use Rattle.std.specs.Prelude.{◌≡◌, ℕ, List, [], ◌∷◌, map, reverse, codes}
-use Rattle.network.specs.contracts.pool.PoolNetwork.TheImpl.{ghosts as over-pool}
+use Rattle.network.specs.contracts.pool.PoolNetwork.TheImpl.{ghosts as over_pool}
 use Rattle.network.specs.declared.pool.Pool.{Pool}
 use Rattle.protocol.specs.Moments.{unused}
 use Rattle.example.specs.Memory.{example, after}
@@ -27,8 +27,8 @@ answers =
 -- a new session over an empty pool ran the lines, was answered so, and its memory is what the example's calls leave
 pub record ExampleSession (r : Session Pool) (told : List Answer) : Type 0 where
   pub first : Session Pool
-  pub fresh : moment over-pool first.system ≡ unused 64 []
-  pub laws : EveryScript over-pool first
-  pub ran : Ran over-pool first (reverse (map text lines)) r
+  pub fresh : moment over_pool first.system ≡ unused 64 []
+  pub laws : EveryScript over_pool first
+  pub ran : Ran over_pool first (reverse (map text lines)) r
   pub tells : map answer_text told ≡ answers
-  pub leaves : moment over-pool r.system ≡ after example
+  pub leaves : moment over_pool r.system ≡ after example

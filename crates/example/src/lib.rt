@@ -1,4 +1,6 @@
 // The portal's example, as a proved run of a session.
+#![tactic(auto)]
+
 ghost use Rattle.example.specs.Pools.{PoolRuns};
 ghost use Rattle.example.specs.Memory.{PortalRun};
 ghost use Rattle.example.specs.Exact.{ExactOverPool};

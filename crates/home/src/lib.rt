@@ -1,4 +1,6 @@
 // The home of one cell of a write-once memory.
+#![tactic(auto)]
+
 mod cell;
 mod replies;
 mod set;

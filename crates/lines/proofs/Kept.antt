@@ -21,11 +21,38 @@ facts_of b = record {
   pointed = b.pointed;
 }
 
+-- the facts as the type of a board asks them
 abbrev pub Parts : Tables → Type 0
-Parts t = OneLine t × (DeferredOnce t × (AtItsLine t × (NeverIdle t × (HeldOnce t × (ReadyOnce t × ((writes t.commands ≤ 32) × ((length t.places ≡ 32) × ((1 ≤ length t.lines) × ((length t.lines ≤ 16) × ((t.last < 32) × ((t.hand < length t.lines) × Unit {0})))))))))))
+Parts t = record {
+  one_line : OneLine t;
+  deferred_once : DeferredOnce t;
+  at_its_line : AtItsLine t;
+  never_idle : NeverIdle t;
+  held_once : HeldOnce t;
+  ready_once : ReadyOnce t;
+  few_writes : writes t.commands ≤ 32;
+  all_places : length t.places ≡ 32;
+  some_lines : 1 ≤ length t.lines;
+  few_lines : length t.lines ≤ 16;
+  last_place : t.last < 32;
+  pointed : t.hand < length t.lines;
+}
 
 pub parts_of : (t : Tables) → Facts t → Parts t
-parts_of t f = (f.one_line, (f.deferred_once, (f.at_its_line, (f.never_idle, (f.held_once, (f.ready_once, (f.few_writes, (f.all_places, (f.some_lines, (f.few_lines, (f.last_place, (f.pointed, tt))))))))))))
+parts_of t f = record {
+  one_line = f.one_line;
+  deferred_once = f.deferred_once;
+  at_its_line = f.at_its_line;
+  never_idle = f.never_idle;
+  held_once = f.held_once;
+  ready_once = f.ready_once;
+  few_writes = f.few_writes;
+  all_places = f.all_places;
+  some_lines = f.some_lines;
+  few_lines = f.few_lines;
+  last_place = f.last_place;
+  pointed = f.pointed;
+}
 
 pub parts : {u : Tables} (t : Tables) → u ≡ t → Facts t → Parts u
 parts {u = u} t e f = parts_of u (subst Facts (sym e) f)

@@ -1,4 +1,6 @@
 // One board of a write-once memory: its commands, its places for reads, and its lines.
+#![tactic(auto)]
+
 mod board;
 mod raw;
 mod show;

@@ -1,12 +1,13 @@
 // The tables of a board. What they keep together is said, and kept, by the board around them.
 ghost use Rattle.std.specs.Prelude.{◌≡◌, map};
 ghost use Rattle.bounded.specs.Listed.{listed};
-ghost use Rattle.lines.specs.Model.{writes as write-commands};
+ghost use Rattle.lines.specs.Model.{writes as write_commands};
 ghost use Rattle.lines.specs.Plain.{plain_command};
 
 use crate::types::{Command, Line, Place};
 use bounded::ArrayVec;
 
+#[derive(Clone, Copy)]
 pub(crate) struct RawBoard {
     pub(crate) commands: ArrayVec<Command, 64>,
     writes: usize,
@@ -15,10 +16,8 @@ pub(crate) struct RawBoard {
     pub(crate) lines: ArrayVec<Line, 16>,
     pub(crate) hand: usize,
     pub(crate) order: ArrayVec<usize, 32>,
-    ghost counted: { writes ≡ write-commands (map plain_command (listed commands)) },
+    ghost counted: { writes ≡ write_commands (map plain_command (listed commands)) },
 }
-
-impl Copy for RawBoard {}
 
 mod access;
 mod acts;

@@ -29,13 +29,12 @@ pub enum Place {
 }
 
 // A waiting line has the places that wait, oldest first.
+#[derive(Clone, Copy)]
 pub enum Line {
     Empty,
     Waiting(Address, ArrayVec<usize, 32>),
     Filled(Address, u64),
 }
-
-impl Copy for Line {}
 
 // A read command names its place.
 #[derive(Clone, Copy)]

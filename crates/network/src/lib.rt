@@ -1,4 +1,6 @@
 // Messages between boards, and the networks that carry them.
+#![tactic(auto)]
+
 mod delay;
 mod lanes;
 mod message;

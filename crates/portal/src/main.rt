@@ -1,4 +1,6 @@
 // Reads a script from standard input, and prints an answer line for each of its lines.
+#![tactic(auto)]
+
 mod serve;
 
 use anyhow::anyhow;

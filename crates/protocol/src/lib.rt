@@ -1,4 +1,6 @@
 // What one call does to the whole memory, and the law of every run.
+#![tactic(auto)]
+
 ghost use Rattle.protocol.specs.Laws.{LawOfRuns};
 ghost use Rattle.protocol.specs.Example.{ExampleRun};
 ghost use Rattle.protocol.specs.Edges.{MemoryEdges};

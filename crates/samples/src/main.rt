@@ -1,4 +1,5 @@
 // The nine calls on two boards over the pool, and then an array of samples.
+#![tactic(auto)]
 
 mod array_walk;
 mod calls;

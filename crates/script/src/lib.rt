@@ -1,4 +1,6 @@
 // The text of scripts: a line as a call, calls and answers as lines, and a whole input as lines.
+#![tactic(auto)]
+
 mod answer;
 mod call;
 mod draft;

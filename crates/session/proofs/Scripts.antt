@@ -12,14 +12,14 @@ use Rattle.script.specs.declared.call.Call.{Call}
 use Rattle.script.specs.Inputs.{InputLine, WritesLine}
 use Rattle.session.specs.declared.session.Session.{Session}
 use Rattle.session.specs.declared.fault.SessionFault.{SessionFault}
-use Rattle.session.specs.declared.fault.SessionFault.TheVariants.{System as by-system}
+use Rattle.session.specs.declared.fault.SessionFault.TheVariants.{System as by_system}
 use Rattle.session.specs.Faults.{scripted_refusal}
 use Rattle.session.specs.Results.{whole}
 use Rattle.session.specs.Sessions.{call_of, Answered, Answers, made, none, Ran, no_line, one_more, EveryScript}
 
 -- the memory's fault is passed on whole
-pub passed_on : {N : Type 0} (net : Ghosts N) (s s' : Session N) (line : InputLine) (c : Call) (fault : SystemFault) (r : Result Answer SessionFault) → (y : SessionFault) × (r ≡ Err y) × (y ≡ by-system fault)
-    → WritesLine c line → Answered net s.system (call_of c) (Refused (scripted_refusal (by-system fault))) s'.system → Answers net s line (whole r) s'
+pub passed_on : {N : Type 0} (net : Ghosts N) (s s' : Session N) (line : InputLine) (c : Call) (fault : SystemFault) (r : Result Answer SessionFault) → (y : SessionFault) × (r ≡ Err y) × (y ≡ by_system fault)
+    → WritesLine c line → Answered net s.system (call_of c) (Refused (scripted_refusal (by_system fault))) s'.system → Answers net s line (whole r) s'
 passed_on net s s' line c fault r p writes a =
     made c writes (subst (λ x. Answered net s.system (call_of c) x s'.system) (sym (ap whole p.1 ∙ ap (λ f. Refused (scripted_refusal f)) p.2)) a)
 

@@ -7,7 +7,7 @@ use Rattle.system.specs.declared.system.System.{System}
 use Rattle.script.specs.declared.answer.Answer.{Answer}
 use Rattle.script.specs.declared.answer.Answer.TheVariants.{Refused}
 use Rattle.session.specs.declared.fault.SessionFault.{SessionFault}
-use Rattle.session.specs.declared.fault.SessionFault.TheVariants.{System as by-system}
+use Rattle.session.specs.declared.fault.SessionFault.TheVariants.{System as by_system}
 use Rattle.session.specs.Faults.{scripted_refusal}
 use Rattle.session.specs.Sessions.{Answered}
 
@@ -19,7 +19,7 @@ whole (Err fault) = Refused (scripted_refusal fault)
 -- what a call on the memory is told
 abbrev pub of_memory : Result Answer SystemFault → Answer
 of_memory (Ok answer) = answer
-of_memory (Err fault) = Refused (scripted_refusal (by-system fault))
+of_memory (Err fault) = Refused (scripted_refusal (by_system fault))
 
 -- a call is made, and its result is told
 abbrev pub Tells : {N : Type 0} → Ghosts N → System N → Call → Result Answer SystemFault → System N → Type 0

@@ -1,6 +1,6 @@
 // Why a line is refused. What the memory says is carried whole.
 ghost use Rattle.std.specs.Prelude.{◌≡◌};
-ghost use Rattle.session.specs.declared.fault.SessionFault.TheVariants.{NotALine as no_line, System as by-system, Array as by-array};
+ghost use Rattle.session.specs.declared.fault.SessionFault.TheVariants.{NotALine as no_line, System as by_system, Array as by_array};
 
 use array::ArrayFault;
 use script::NotALine;
@@ -22,7 +22,7 @@ impl From<NotALine> for SessionFault {
 }
 
 impl From<SystemFault> for SessionFault {
-    ghost from_gives = { λ fault whole. whole ≡ by-system fault };
+    ghost from_gives = { λ fault whole. whole ≡ by_system fault };
 
     fn from(fault: SystemFault) -> SessionFault {
         SessionFault::System(fault)
@@ -31,7 +31,7 @@ impl From<SystemFault> for SessionFault {
 
 // No line reads or writes an array by index: this is for what is driven beside the lines.
 impl From<ArrayFault> for SessionFault {
-    ghost from_gives = { λ fault whole. whole ≡ by-array fault };
+    ghost from_gives = { λ fault whole. whole ≡ by_array fault };
 
     fn from(fault: ArrayFault) -> SessionFault {
         SessionFault::Array(fault)

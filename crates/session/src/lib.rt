@@ -1,4 +1,6 @@
 // A session: lines of a script are calls on a memory, over any network.
+#![tactic(auto)]
+
 mod fault;
 mod session;
 

@@ -10,7 +10,7 @@ use Rattle.network.specs.Bags.{Offered}
 use Rattle.network.specs.Messages.{Plain, plain, reading, writing}
 use Rattle.lines.specs.declared.types.Acted.{Acted}
 use Rattle.lines.specs.declared.types.ActFault.{ActFault}
-use Rattle.lines.specs.declared.types.ActFault.TheVariants as act-fault
+use Rattle.lines.specs.declared.types.ActFault.TheVariants as act_fault
 use Rattle.lines.specs.declared.types.LineFault.TheVariants.{EveryLineWaits, WrittenTwice}
 use Rattle.lines.specs.Model as board
 use Rattle.lines.specs.Model.{Tables}
@@ -68,10 +68,10 @@ goes_so m m' n (Some (board.asks a)) e = ap (λ c. reading (a / c % 16) a n ∷ 
 goes_so m m' n (Some (board.gives a v)) e = ap (λ c. writing (a / c % 16) a n v ∷ []) e
 
 refuses_so : (n : ℕ) (e : ActFault) → why_not n (plain_refusal e) ≡ refusal_of (whole_fault n e)
-refuses_so n act-fault.NoSuchCommand = refl
-refuses_so n (act-fault.NetworkFull a) = refl
-refuses_so n (act-fault.Lines (EveryLineWaits k a)) = refl
-refuses_so n (act-fault.Lines (WrittenTwice k a)) = refl
+refuses_so n act_fault.NoSuchCommand = refl
+refuses_so n (act_fault.NetworkFull a) = refl
+refuses_so n (act_fault.Lines (EveryLineWaits k a)) = refl
+refuses_so n (act_fault.Lines (WrittenTwice k a)) = refl
 
 module _ (m : Moment) (n k : ℕ) (s : board.Step) where
   -- the board's answer, as the call's outcome

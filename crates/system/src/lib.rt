@@ -1,4 +1,6 @@
 // A write-once memory of up to sixteen nodes, over any network.
+#![tactic(auto)]
+
 mod drawn;
 mod fault;
 mod memory;

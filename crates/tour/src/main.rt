@@ -1,4 +1,6 @@
 // Walks one cell's life over each network: each message as it arrives, and the cell after it.
+#![tactic(auto)]
+
 mod life;
 mod limits;
 mod stack;

@@ -4,7 +4,7 @@ ghost use Rattle.bounded.specs.Listed.{listed};
 ghost use Rattle.std.specs.List.{slice_get};
 ghost use Rattle.std.specs.Result.{result_map_both};
 ghost use Rattle.lines.specs.Facts.{Facts};
-ghost use Rattle.lines.specs.Model.{reading, writing, writes as write-commands, claimed, used, deferring, readying, read_claims, act_on, acted};
+ghost use Rattle.lines.specs.Model.{reading, writing, writes as write_commands, claimed, used, deferring, readying, read_claims, act_on, acted};
 ghost use Rattle.lines.specs.Plain.{plain_command, plain_read, plain_acted, plain_refusal};
 ghost use Rattle.lines.specs.Raws.{raw_tables};
 
@@ -17,7 +17,7 @@ use network::{Address, Node};
 impl Command {
     // How many writes it is, 1 or 0.
     fn writes(self) -> usize
-        ensures { result ≡ write-commands (plain_command self ∷ []) }
+        ensures { result ≡ write_commands (plain_command self ∷ []) }
     {
         match self {
             Command::Read(_) => 0,

@@ -4,7 +4,7 @@ use Rattle.std.proofs.lemmas.Result.{MatchResult-from_err}
 use Rattle.script.specs.Texts.{Fielded}
 use Rattle.script.proofs.Commas.{pending, read, pending_later, pending_first, no_number, no_comma, whole, too_much}
 use Rattle.script.proofs.fields.fields.Goals as goal
-use Rattle.script.proofs.fields.fields.Goals.{then-i-gt0+in-ok-rest, else-i-gt0}
+use Rattle.script.proofs.fields.fields.Goals.{then-i-gt0+in_ok-rest, else-i-gt0}
 
 -- as many fields as there are values
 counted : (n m : ℕ) (text ys : List ℕ) → n ≡ m → Fielded n text ys → Fielded m text ys
@@ -17,27 +17,27 @@ pub loop-i-preserved : goal.loop-i-preserved
 loop-i-preserved g c =
     let start : pending c.loop-i.i c.loop-i.rest.now ≡ 44 ∷ c.if-i-gt0.rest.now =
     elim c.if-i-gt0.branch [
-      | then-i-gt0+in-ok-rest w ↦ pending_later _ _ w.if-i-gt0.true ∙ (w.in-ok-rest.ensures ∙ ap (λ (r : Bor (List ℕ)). 44 ∷ r.now) (sym w.rest-is))
+      | then-i-gt0+in_ok-rest w ↦ pending_later _ _ w.if-i-gt0.true ∙ (w.in_ok-rest.ensures ∙ ap (λ (r : Bor (List ℕ)). 44 ∷ r.now) (sym w.rest-is))
       | else-i-gt0 w ↦ pending_first _ _ w.if-i-gt0.false ∙ ap (λ (r : Bor (List ℕ)). 44 ∷ r.now) (sym w.rest-is)
     ]
     in
-    (rw (pending_later (c.loop-i.i + 1) c.in-ok-value.after.now (omega arith)) (read _ _ _ _ _ _ _ (omega arith) c.loop-i.invariant.0 start c.in-ok-value.ensures), length-set _ _ _ ∙ c.loop-i.invariant.1)
+    (rw (pending_later (c.loop-i.i + 1) c.in_ok-value.after.now (omega arith)) (read _ _ _ _ _ _ _ (omega arith) c.loop-i.invariant.0 start c.in_ok-value.ensures), length-set _ _ _ ∙ c.loop-i.invariant.1)
 
-pub returns-in-err-rest : goal.returns-in-err-rest
-returns-in-err-rest g c =
-    MatchResult-from_err _ _ _ c.from-residual.ensures.0
-    (λ _ ys f. no_comma _ _ _ _ ys c.loop-i.invariant.0 (counted _ _ _ _ (sym c.loop-i.invariant.1) f) (omega arith) (λ z h. c.in-err-rest.ensures z (sym (pending_later c.loop-i.i c.loop-i.rest.now c.if-i-gt0.true) ∙ h)))
+pub returns-in_err-rest : goal.returns-in_err-rest
+returns-in_err-rest g c =
+    MatchResult-from_err _ _ _ c.from_residual.ensures.0
+    (λ _ ys f. no_comma _ _ _ _ ys c.loop-i.invariant.0 (counted _ _ _ _ (sym c.loop-i.invariant.1) f) (omega arith) (λ z h. c.in_err-rest.ensures z (sym (pending_later c.loop-i.i c.loop-i.rest.now c.if-i-gt0.true) ∙ h)))
 
-pub returns-in-err-value : goal.returns-in-err-value
-returns-in-err-value g c =
+pub returns-in_err-value : goal.returns-in_err-value
+returns-in_err-value g c =
     let start : pending c.loop-i.i c.loop-i.rest.now ≡ 44 ∷ c.if-i-gt0.rest.now =
     elim c.if-i-gt0.branch [
-      | then-i-gt0+in-ok-rest w ↦ pending_later _ _ w.if-i-gt0.true ∙ (w.in-ok-rest.ensures ∙ ap (λ (r : Bor (List ℕ)). 44 ∷ r.now) (sym w.rest-is))
+      | then-i-gt0+in_ok-rest w ↦ pending_later _ _ w.if-i-gt0.true ∙ (w.in_ok-rest.ensures ∙ ap (λ (r : Bor (List ℕ)). 44 ∷ r.now) (sym w.rest-is))
       | else-i-gt0 w ↦ pending_first _ _ w.if-i-gt0.false ∙ ap (λ (r : Bor (List ℕ)). 44 ∷ r.now) (sym w.rest-is)
     ]
     in
-    MatchResult-from_err _ _ _ c.from-residual-in-err-value.ensures.0
-    (λ _ ys f. no_number _ _ _ _ ys c.loop-i.invariant.0 (counted _ _ _ _ (sym c.loop-i.invariant.1) f) _ (omega arith) start c.in-err-value.ensures)
+    MatchResult-from_err _ _ _ c.from_residual-in_err-value.ensures.0
+    (λ _ ys f. no_number _ _ _ _ ys c.loop-i.invariant.0 (counted _ _ _ _ (sym c.loop-i.invariant.1) f) _ (omega arith) start c.in_err-value.ensures)
 
 pub returns-in-empty : goal.returns-in-empty
 returns-in-empty g c =
@@ -45,8 +45,8 @@ returns-in-empty g c =
     let e = pending_later c.loop-i.i c.loop-i.rest.now (omega (arith, c.requires)) in
     counted _ _ _ _ c.loop-i.invariant.1 (whole _ _ _ _ (omega arith) c.loop-i.invariant.0 (e ∙ nil_from_length _ none))
 
-pub returns-in-default : goal.returns-in-default
-returns-in-default g c ys f =
+pub returns-in_default : goal.returns-in_default
+returns-in_default g c ys f =
     let some : 0 < length c.loop-i.rest.now = search rules in
     let e = pending_later c.loop-i.i c.loop-i.rest.now (omega (arith, c.requires)) in
     too_much _ _ _ _ ys c.loop-i.invariant.0 (counted _ _ _ _ (sym c.loop-i.invariant.1) f) (omega arith) (omega (arith, ap length e))

@@ -6,13 +6,13 @@ use Rattle.script.proofs.number.digits.Goals as goal
 
 pub loop-count-preserved : goal.loop-count-preserved
 loop-count-preserved c =
-    (omega arith, digits_more 10 _ _ c.loop-count-test.true c.loop-count.invariant.1 c.if-is-ascii-digit.ensures.bound)
+    (omega arith, digits_more 10 _ _ c.loop-count-test.true c.loop-count.invariant.1 c.if-is_ascii_digit.ensures.bound)
 
-pub returns-else-is-ascii-digit : goal.returns-else-is-ascii-digit
-returns-else-is-ascii-digit c = record {
+pub returns-else-is_ascii_digit : goal.returns-else-is_ascii_digit
+returns-else-is_ascii_digit c = record {
   within = omega arith;
   all = c.loop-count.invariant.1;
-  stops = subst NoDigit (sym (drop_more _ _ 0 c.loop-count-test.true)) c.if-is-ascii-digit.ensures.cases;
+  stops = subst NoDigit (sym (drop_more _ _ 0 c.loop-count-test.true)) c.if-is_ascii_digit.ensures.cases;
 }
 
 pub returns-after-loop-count : goal.returns-after-loop-count

@@ -1,4 +1,4 @@
-use Rattle.std.proofs.Common.{◌≡◌, true, cond, ltb, [], ◌∷◌, ◌++◌, length, take, sym, ap, ◌∙◌, arith, le-ltb, lt-ltb}
+use Rattle.std.proofs.Common.{◌≡◌, true, cond, ltb, [], ◌∷◌, ◌++◌, length, take, sym, ap, ◌∙◌, arith, lt-ltb}
 use Rattle.std.proofs.lemmas.List.{length-take-le, take_more_set}
 use Rattle.bounded.proofs.list.ArrayVec.push.Goals as goal
 

@@ -3,8 +3,8 @@ use lib.Count.{ones-le}
 use Rattle.home.proofs.Lowest.{members_count}
 use Rattle.home.proofs.set.NodeSet.len.Goals as goal
 
-pub overflow-cast-result : goal.overflow-cast-result
-overflow-cast-result c = omega (arith, ones-le 16 c.args.self.mask (omega arith))
+pub overflow_cast-result : goal.overflow_cast-result
+overflow_cast-result c = omega (arith, ones-le 16 c.args.self.mask (omega arith))
 
 pub returns : goal.returns
 returns c =

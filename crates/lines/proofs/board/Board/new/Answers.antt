@@ -4,5 +4,5 @@ use Rattle.lines.proofs.Keeps.{start_facts}
 use Rattle.lines.proofs.Kept.{parts}
 use Rattle.lines.proofs.board.Board.new.Goals as goal
 
-pub invariant-of-result : goal.invariant-of-result
-invariant-of-result c = parts (start c.args.lines) c.new.ensures (start_facts c.args.lines (omega arith) (omega arith))
+pub invariant_of-result : goal.invariant_of-result
+invariant_of-result c = parts (start c.args.lines) c.new.ensures (start_facts c.args.lines (omega arith) (omega arith))

@@ -7,8 +7,8 @@ use Rattle.lines.proofs.Keeps.{write_facts}
 use Rattle.lines.proofs.Kept.{facts_of, parts}
 use Rattle.lines.proofs.board.Board.write.Goals as goal
 
-pub invariant-of-self : goal.invariant-of-self
-invariant-of-self c =
+pub invariant_of-self : goal.invariant_of-self
+invariant_of-self c =
     let b = c.args.self.now in
     let t = tables b in
     let a = c.args.address.index in

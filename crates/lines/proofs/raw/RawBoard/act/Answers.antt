@@ -17,13 +17,13 @@ picked b k o e = nth-map plain_command (listed b.commands) k ∙ ap (option_map 
 acts_on : (n : ℕ) (b : RawBoard) (k load limit : ℕ) (o : Option code.Command) → o ≡ slice_get (listed b.commands) k → act_on n (raw_tables b) k load limit (option_map plain_command o) ≡ acted n (raw_tables b) k load limit
 acts_on n b k load limit o e = ap (act_on n (raw_tables b) k load limit) (sym (picked b k o e))
 
-pub returns-in-default : goal.returns-in-default
-returns-in-default c =
-    let e = acts_on c.args.node.index c.args.self.now c.args.pick c.args.load c.args.limit _ c.in-default.ensures in
+pub returns-in_default : goal.returns-in_default
+returns-in_default c =
+    let e = acts_on c.args.node.index c.args.self.now c.args.pick c.args.load c.args.limit _ c.in_default.ensures in
     record { answer = ap (λ s. s.answer) e; after = ap (λ s. s.after) e }
 
-pub act-read-requires : goal.act-read-requires
-act-read-requires c =
+pub act_read-requires : goal.act_read-requires
+act_read-requires c =
     let is = sym (ap Some c.in-Read.is) ∙ c.in-Some.ensures in
     record { facts = c.requires; named = picked c.args.self.now c.args.pick _ is }
 
@@ -31,10 +31,10 @@ pub returns-in-Read : goal.returns-in-Read
 returns-in-Read c =
     let is = sym (ap Some c.in-Read.is) ∙ c.in-Some.ensures in
     let e = acts_on c.args.node.index c.args.self.now c.args.pick c.args.load c.args.limit _ is in
-    record { answer = c.act-read.ensures.answer ∙ ap (λ s. s.answer) e; after = c.act-read.ensures.after ∙ ap (λ s. s.after) e }
+    record { answer = c.act_read.ensures.answer ∙ ap (λ s. s.answer) e; after = c.act_read.ensures.after ∙ ap (λ s. s.after) e }
 
 pub returns-in-Write : goal.returns-in-Write
 returns-in-Write c =
     let is = sym (ap Some c.in-Write.is) ∙ c.in-Some.ensures in
     let e = acts_on c.args.node.index c.args.self.now c.args.pick c.args.load c.args.limit _ is in
-    record { answer = c.act-write.ensures.answer ∙ ap (λ s. s.answer) e; after = c.act-write.ensures.after ∙ ap (λ s. s.after) e }
+    record { answer = c.act_write.ensures.answer ∙ ap (λ s. s.answer) e; after = c.act_write.ensures.after ∙ ap (λ s. s.after) e }

@@ -17,13 +17,13 @@ must_be_held (Deferred r) q e other = let z : ◌≡◌ {A = ℕ} 0 1 = cc in om
 must_be_held (Ready r v) q e other = let z : ◌≡◌ {A = ℕ} 0 1 = cc in omega arith
 must_be_held (Drawn r v) q e other = let z : ◌≡◌ {A = ℕ} 0 1 = cc in omega arith
 
-pub returns-in-default : goal.returns-in-default
-returns-in-default c =
+pub returns-in_default : goal.returns-in_default
+returns-in_default c =
     let h = command_held (raw_tables c.args.self.now) c.args.pick c.args.place c.requires.facts c.requires.named in
-    absurd (must_be_held c.at.result _ (c.at.ensures ∙ h.1) c.in-default.not-Held)
+    absurd (must_be_held c.at.result _ (c.at.ensures ∙ h.1) c.in_default.not-Held)
 
-pub make-ready-requires : goal.make-ready-requires
-make-ready-requires c =
+pub make_ready-requires : goal.make_ready-requires
+make_ready-requires c =
     let t = raw_tables c.args.self.now in
     let h = command_held t c.args.pick c.args.place c.requires.facts c.requires.named in
     order_room t c.args.place c.requires.facts (ap if_ready h.1) h.0

@@ -15,19 +15,19 @@ pointed h ls slice e low = let a = ap length e in let b = length-map ls plain_li
 abbrev first : Kind → ℕ → List Line → Option ℕ
 first k h ls = first_round (λ i. of_kind k (get_or (map plain_line ls) i empty)) (length (map plain_line ls)) h
 
-pub first-line-requires : goal.first-line-requires
-first-line-requires c = pointed c.args.self.now.hand (listed c.args.self.now.lines) _ c.as-slice.ensures c.requires.pointed
+pub first_line-requires : goal.first_line-requires
+first_line-requires c = pointed c.args.self.now.hand (listed c.args.self.now.lines) _ c.as_slice.ensures c.requires.pointed
 
-pub first-line-requires-in-None : goal.first-line-requires-in-None
-first-line-requires-in-None c = pointed c.args.self.now.hand (listed c.args.self.now.lines) _ c.as-slice-in-None.ensures c.requires.pointed
+pub first_line-requires-in-None : goal.first_line-requires-in-None
+first_line-requires-in-None c = pointed c.args.self.now.hand (listed c.args.self.now.lines) _ c.as_slice-in-None.ensures c.requires.pointed
 
 pub returns-in-Some : goal.returns-in-Some
 returns-in-Some c =
     let s = c.args.self.now in
-    ap (λ o. or_else o (first kind.Filled s.hand (listed s.lines))) (c.in-Some.ensures ∙ ap (first kind.Empty s.hand) c.as-slice.ensures)
+    ap (λ o. or_else o (first kind.Filled s.hand (listed s.lines))) (c.in-Some.ensures ∙ ap (first kind.Empty s.hand) c.as_slice.ensures)
 
 pub returns-in-None : goal.returns-in-None
 returns-in-None c =
     let s = c.args.self.now in
-    c.first-line-in-None.ensures ∙ ap (first kind.Filled s.hand) c.as-slice-in-None.ensures
-    ∙ ap (λ o. or_else o (first kind.Filled s.hand (listed s.lines))) (c.in-None.ensures ∙ ap (first kind.Empty s.hand) c.as-slice.ensures)
+    c.first_line-in-None.ensures ∙ ap (first kind.Filled s.hand) c.as_slice-in-None.ensures
+    ∙ ap (λ o. or_else o (first kind.Filled s.hand (listed s.lines))) (c.in-None.ensures ∙ ap (first kind.Empty s.hand) c.as_slice.ensures)

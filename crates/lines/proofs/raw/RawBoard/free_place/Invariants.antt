@@ -6,4 +6,4 @@ use Rattle.lines.proofs.raw.RawBoard.free_place.Given as goal
 
 -- the places from here on have the answer
 abbrev pub invariant-loop-turn : goal.invariant-loop-turn
-invariant-loop-turn l = first_of (λ k. is_free (place_at (raw_tables l.self) k)) 32 (32 - l.-turn) l.i ≡ free_place (raw_tables l.self)
+invariant-loop-turn l = first_of (λ k. is_free (place_at (raw_tables l.self) k)) 32 (32 - l._turn) l.i ≡ free_place (raw_tables l.self)

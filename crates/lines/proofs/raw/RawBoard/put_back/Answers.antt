@@ -6,8 +6,8 @@ use Rattle.lines.proofs.Looks.{in_table}
 use Rattle.lines.proofs.Room.{order_room}
 use Rattle.lines.proofs.raw.RawBoard.put_back.Goals as goal
 
-pub make-ready-requires : goal.make-ready-requires
-make-ready-requires c =
+pub make_ready-requires : goal.make_ready-requires
+make_ready-requires c =
     let t = raw_tables c.args.self.now in
     let p = c.args.place in
     let at = sym c.in-Drawn.ensures in

@@ -7,13 +7,13 @@ use Rattle.lines.proofs.Counts.{writes_push}
 use Rattle.lines.proofs.Room.{read_room}
 use Rattle.lines.proofs.raw.RawBoard.read.Goals as goal
 
-pub add-command-requires : goal.add-command-requires
-add-command-requires c = read_room (raw_tables c.args.self.now) c.in-Some.place c.requires (sym c.in-Some.ensures)
+pub add_command-requires : goal.add_command-requires
+add_command-requires c = read_room (raw_tables c.args.self.now) c.in-Some.place c.requires (sym c.in-Some.ensures)
 
-pub invariant-of-self : goal.invariant-of-self
-invariant-of-self c =
+pub invariant_of-self : goal.invariant_of-self
+invariant_of-self c =
     let s = c.args.self.now in
     let e = s.counted in
-    let n = ap writes c.add-command.ensures in
+    let n = ap writes c.add_command.ensures in
     let w = writes_push (map plain_command (listed s.commands)) (reading c.in-Some.place) in
-    (omega arith, tt)
+    record { counted = omega arith }

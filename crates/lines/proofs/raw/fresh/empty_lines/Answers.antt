@@ -11,10 +11,10 @@ append-requires c =
     let l = c.loop-i in
     let a = length-map (listed l.lines) plain_line in
     let b = ap length l.invariant in
-    let d = length-replicate l.-i empty in
+    let d = length-replicate l._i empty in
     (lit< tt, omega arith)
 
 pub loop-i-preserved : goal.loop-i-preserved
 loop-i-preserved c =
     let l = c.loop-i in
-    ap (map plain_line) c.append.ensures ∙ map_push plain_line (listed l.lines) Empty ∙ ap (λ ls. ls ++ empty ∷ []) l.invariant ∙ replicate_more l.-i empty
+    ap (map plain_line) c.append.ensures ∙ map_push plain_line (listed l.lines) Empty ∙ ap (λ ls. ls ++ empty ∷ []) l.invariant ∙ replicate_more l._i empty

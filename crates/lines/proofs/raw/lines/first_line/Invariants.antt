@@ -6,4 +6,4 @@ use Rattle.lines.proofs.raw.lines.first_line.Given as goal
 
 -- the lines from here on have the answer
 abbrev pub invariant-loop-turn : goal.invariant-loop-turn
-invariant-loop-turn l = (l.i < length l.lines) × (first_of (λ k. of_kind l.kind (get_or (map plain_line l.lines) k empty)) (length l.lines) (length l.lines - l.-turn) l.i ≡ first_round (λ k. of_kind l.kind (get_or (map plain_line l.lines) k empty)) (length l.lines) l.initial.i)
+invariant-loop-turn l = (l.i < length l.lines) × (first_of (λ k. of_kind l.kind (get_or (map plain_line l.lines) k empty)) (length l.lines) (length l.lines - l._turn) l.i ≡ first_round (λ k. of_kind l.kind (get_or (map plain_line l.lines) k empty)) (length l.lines) l.initial.i)

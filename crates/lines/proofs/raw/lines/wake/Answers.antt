@@ -6,8 +6,8 @@ use Rattle.lines.specs.Plain.{plain_place}
 use Rattle.lines.proofs.Waking.{WaitingOn, waits_here, waits_on, room_here, order_on}
 use Rattle.lines.proofs.raw.lines.wake.Goals as goal
 
-pub wake-one-requires : goal.wake-one-requires
-wake-one-requires c =
+pub wake_one-requires : goal.wake_one-requires
+wake_one-requires c =
     let l = c.loop-place in
     waits_here (map plain_place l.places) c.args.waiting.now l.place-index (omega arith) l.invariant.0
 
@@ -28,8 +28,8 @@ loop-place-preserved c =
     let i = l.place-index in
     let v = c.args.word in
     let low = c.loop-place-test.true in (
-      subst (λ (qs : List Place). WaitingOn qs ws (i + 1)) (sym c.wake-one.ensures) (waits_on ps ws i low v l.invariant.0),
-      ap (λ qs. woken v qs (drop (i + 1) ws)) c.wake-one.ensures ∙ sym (at_drop_more (woken v ps) ws i 0 low) ∙ l.invariant.1,
+      subst (λ (qs : List Place). WaitingOn qs ws (i + 1)) (sym c.wake_one.ensures) (waits_on ps ws i low v l.invariant.0),
+      ap (λ qs. woken v qs (drop (i + 1) ws)) c.wake_one.ensures ∙ sym (at_drop_more (woken v ps) ws i 0 low) ∙ l.invariant.1,
       order_on ps ws i low (listed l.order) (listed c.append.new.list) _ c.append.ensures l.invariant.2,
     )
 

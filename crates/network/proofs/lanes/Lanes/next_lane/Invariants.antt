@@ -5,4 +5,4 @@ use Rattle.network.specs.Rules.{waits}
 use Rattle.network.proofs.lanes.Lanes.next_lane.Given as goal
 
 abbrev pub invariant-loop-turn : goal.invariant-loop-turn
-invariant-loop-turn l = first_of (waits (listed l.self.held)) 16 (16 - l.-turn) l.lane ≡ first_of (waits (listed l.self.held)) 16 16 (l.pick % 16)
+invariant-loop-turn l = first_of (waits (listed l.self.held)) 16 (16 - l._turn) l.lane ≡ first_of (waits (listed l.self.held)) 16 16 (l.pick % 16)

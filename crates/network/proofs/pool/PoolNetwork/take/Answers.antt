@@ -1,4 +1,4 @@
-use Rattle.std.proofs.Common.{◌%◌, sym, refl, ap, ◌∙◌, subst, mod-lt, arith}
+use Rattle.std.proofs.Common.{◌%◌, refl, subst, mod-lt, arith}
 use Rattle.bounded.specs.Listed.{listed}
 use Rattle.network.specs.Bags.{TakenAt}
 use Rattle.network.proofs.Bags.{none_taken, taken_at}

@@ -4,20 +4,20 @@ use Rattle.system.specs.Faults.{refusal_of}
 use Rattle.session.proofs.Keeps.{parks_taken_up, finish_taken, stays}
 use Rattle.session.proofs.session.Session.finish.Goals as goal
 
-pub returns-in-default : goal.returns-in-default
-returns-in-default g c =
+pub returns-in_default : goal.returns-in_default
+returns-in_default g c =
     let was = c.args.self.now in
     let call = finish c.args.node c.args.place in
     let why = refusal_of c.undrawn.result in
-    let not_so = sym (was.parked c.args.node c.args.place) ∙ sym c.in-default.ensures.answer in
+    let not_so = sym (was.parked c.args.node c.args.place) ∙ sym c.in_default.ensures.answer in
     record {
       event = refused call why;
       called = stays g.N.Network was.system call why (refl, refl) (refl, refl) (c.undrawn.ensures.finishing c.args.place not_so);
       tells = refl;
     }
 
-pub invariant-of-self-2 : goal.invariant-of-self-2
-invariant-of-self-2 g c =
+pub invariant_of-self-2 : goal.invariant_of-self-2
+invariant_of-self-2 g c =
     let was = c.args.self.now in
     let up = c.in-Some.ensures in
     parks_taken_up g.N.Network was.system c.finish.new.self finish finished c.args.node c.args.place c.in-Some.token.node c.in-Some.token.place c.finish.result

@@ -6,20 +6,20 @@ use Rattle.protocol.specs.Moments.{waiters}
 use Rattle.system.proofs.Waiting.{few_in_all, few_set}
 use Rattle.system.proofs.memory.Memory.receive.Goals as goal
 
-pub overflow-sub-self : goal.overflow-sub-self
-overflow-sub-self c =
+pub overflow_sub-self : goal.overflow_sub-self
+overflow_sub-self c =
     let s = c.args.self.now in
     let i = c.index-address.result in
     let h : i < length s.cells = omega (arith, s.whole, c.index-address.ensures.bound) in
     omega (arith, c.waiters.ensures.value, get_or-le-sum_by waiters s.cells i Undefined h, s.counted)
 
-pub overflow-add-self : goal.overflow-add-self
-overflow-add-self c =
+pub overflow_add-self : goal.overflow_add-self
+overflow_add-self c =
     let s = c.args.self.now in
     omega (arith, c.waiters-2.ensures.few, few_in_all s.cells s.few, s.counted, s.whole)
 
-pub invariant-of-self : goal.invariant-of-self
-invariant-of-self c =
+pub invariant_of-self : goal.invariant_of-self
+invariant_of-self c =
     let s = c.args.self.now in
     let i = c.index-address.result in
     let y = c.receive-answer.new.self in

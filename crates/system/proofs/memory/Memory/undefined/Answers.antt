@@ -4,5 +4,5 @@ use Rattle.home.specs.declared.cell.Cell.TheVariants.{Undefined}
 use Rattle.system.proofs.Waiting.{few_undefined}
 use Rattle.system.proofs.memory.Memory.undefined.Goals as goal
 
-pub invariant-of-result : goal.invariant-of-result
-invariant-of-result c = (length-replicate 1024 Undefined, (refl, (few_undefined 1024, tt)))
+pub invariant_of-result : goal.invariant_of-result
+invariant_of-result c = (length-replicate 1024 Undefined, (refl, (few_undefined 1024, tt)))

@@ -15,8 +15,8 @@ returns-then-length-room g c =
     refused_31 g.N.Network c.args.self.now.network (moment g.N.Network c.args.self.now) refl c.args.kind c.args.length c.if-self-eq0.false (sym c.if-bad-array.ensures)
     (omega (arith, c.if-length-room.true, c.saturating-sub-room.ensures))
 
-pub invariant-of-self : goal.invariant-of-self
-invariant-of-self g c =
+pub invariant_of-self : goal.invariant_of-self
+invariant_of-self g c =
     let s = c.args.self.now in
     let most : s.nodes * s.cells ≤ 1024 = mul-le-mul s.few_nodes s.few_cells in
     let some = some_size c.args.kind c.args.length (sym c.if-bad-array.ensures) in

@@ -14,23 +14,23 @@ use Rattle.system.proofs.system.System.deliver.Goals as goal
 pub returns-then-self-eq0 : goal.returns-then-self-eq0
 returns-then-self-eq0 g c = too_early g.N.Network refl c.args.pick c.if-self-eq0.true
 
-pub returns-in-default : goal.returns-in-default
-returns-in-default g c =
+pub returns-in_default : goal.returns-in_default
+returns-in_default g c =
     let m = moment g.N.Network c.args.self.now in
-    delivery g.N.Network {m = m} refl c.args.pick None c.take.new.self c.take.new.self m.boards m.memory c.if-self-eq0.false c.in-default.ensures.takes c.in-default.ensures.bag
+    delivery g.N.Network {m = m} refl c.args.pick None c.take.new.self c.take.new.self m.boards m.memory c.if-self-eq0.false c.in_default.ensures.takes c.in_default.ensures.bag
     refl refl refl refl refl c.take.ensures.bound
 
-pub returns-in-err-replies : goal.returns-in-err-replies
-returns-in-err-replies g c =
+pub returns-in_err-replies : goal.returns-in_err-replies
+returns-in_err-replies g c =
     let m = moment g.N.Network c.args.self.now in
     let k = c.args.pick in
     let x = c.in-Some.message in
     let after = home.after (cell_at m x.address.index) (plain x) in
     delivery g.N.Network {m = m} refl k (Some x) c.take.new.self c.take.new.self m.boards c.receive.new.self.cells c.if-self-eq0.false c.in-Some.ensures.takes c.in-Some.ensures.bag
-    (goes_home m k x c.kind.result c.kind.ensures c.in-Read.is ∙ ap (at_home m k x.address.index after) (sym c.in-err-replies.ensures.answer)
+    (goes_home m k x c.kind.result c.kind.ensures c.in-Read.is ∙ ap (at_home m k x.address.index after) (sym c.in_err-replies.ensures.answer)
     ∙ ap (λ e. takes e (with_cell m x.address.index after))
-    (written_twice k (λ count. delivered k count) c.in-err-replies.field-0.0 c.from-residual.result (err_from_is_err_and c.from-residual.result c.from-residual.ensures.1)))
-    refl refl refl c.in-err-replies.ensures.cells c.take.ensures.bound
+    (written_twice k (λ count. delivered k count) c.in_err-replies.field-0.0 c.from-residual.result (err_from_is_err_and c.from-residual.result c.from-residual.ensures.1)))
+    refl refl refl c.in_err-replies.ensures.cells c.take.ensures.bound
 
 pub returns-in-Reply : goal.returns-in-Reply
 returns-in-Reply g c =
@@ -41,8 +41,8 @@ returns-in-Reply g c =
     (comes_back m k x c.kind.result c.kind.ensures c.in-Reply.is ∙ ap (λ count. takes (delivered k count) (with_board m x.to.index (replied (board_at m x.to.index) x.address.index x.word).after)) (sym c.reply-at.ensures.answer))
     refl refl c.reply-at.ensures.boards refl c.take.ensures.bound
 
-pub returns-in-ok-replies : goal.returns-in-ok-replies
-returns-in-ok-replies g c =
+pub returns-in_ok-replies : goal.returns-in_ok-replies
+returns-in_ok-replies g c =
     let m = moment g.N.Network c.args.self.now in
     let net = g.N.Network in
     let k = c.args.pick in
@@ -51,7 +51,7 @@ returns-in-ok-replies g c =
     let last = c.offer-all.new.network in
     let after = home.after (cell_at m x.address.index) (plain x) in
     delivery net {m = m} refl k (Some x) rest last m.boards c.receive.new.self.cells c.if-self-eq0.false c.in-Some.ensures.takes c.in-Some.ensures.bag
-    (goes_home m k x c.kind.result c.kind.ensures c.in-Read.is ∙ ap (at_home m k x.address.index after) (sym c.in-ok-replies.ensures.answer))
+    (goes_home m k x c.kind.result c.kind.ensures c.in-Read.is ∙ ap (at_home m k x.address.index after) (sym c.in_ok-replies.ensures.answer))
     c.offer-all.ensures.offers
-    (subst (λ b. Offered b (map plain (net.bag rest)) (pending c.in-ok-replies.replies) (map plain (net.bag last))) c.take.ensures.bound c.offer-all.ensures.bag)
-    refl c.in-ok-replies.ensures.cells (c.offer-all.ensures.bound ∙ c.take.ensures.bound)
+    (subst (λ b. Offered b (map plain (net.bag rest)) (pending c.in_ok-replies.replies) (map plain (net.bag last))) c.take.ensures.bound c.offer-all.ensures.bag)
+    refl c.in_ok-replies.ensures.cells (c.offer-all.ensures.bound ∙ c.take.ensures.bound)

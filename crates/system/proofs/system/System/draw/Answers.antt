@@ -7,13 +7,13 @@ use Rattle.system.proofs.Draws.{nothing_drawn}
 use Rattle.system.proofs.Steps.{quiet_board, unmoved, stopped}
 use Rattle.system.proofs.system.System.draw.Goals as goal
 
-pub returns-in-err-check-node : goal.returns-in-err-check-node
-returns-in-err-check-node g c =
+pub returns-in_err-check-node : goal.returns-in_err-check-node
+returns-in_err-check-node g c =
     let m = moment g.N.Network c.args.self.now in
     let call = draw c.args.node in
     record {
-      call = stopped g.N.Network {m = m} call _ c.in-err-check-node.field-0.0 c.from-residual.result (err_from_is_err_and c.from-residual.result c.from-residual.ensures.1) (refl, refl) (refl, refl)
-          (c.in-err-check-node.ensures.rule call _) refl;
+      call = stopped g.N.Network {m = m} call _ c.in_err-check-node.field-0.0 c.from-residual.result (err_from_is_err_and c.from-residual.result c.from-residual.ensures.1) (refl, refl) (refl, refl)
+          (c.in_err-check-node.ensures.rule call _) refl;
       token = IfOk-from_err c.from-residual.result _ c.from-residual.ensures.0;
     }
 
@@ -23,7 +23,7 @@ returns-in-Some g c =
     let n = c.args.node in
     record {
       call = quiet_board g.N.Network {m = m} (draw n) _ n _ (refl, refl) (refl, refl) c.in-Some.ensures.boards
-          (c.in-ok-check-node.ensures.rule (draw n) _ ∙ ap (draws m n) (sym c.in-Some.ensures.answer)) refl;
+          (c.in_ok-check-node.ensures.rule (draw n) _ ∙ ap (draws m n) (sym c.in-Some.ensures.answer)) refl;
       token = (c.new.ensures.node, c.new.ensures.place);
     }
 
@@ -34,6 +34,6 @@ returns-in-None g c =
     let none = c.in-None.ensures.answer in
     record {
       call = unmoved g.N.Network {m = m} (draw n) _ n _ (refl, refl) (refl, refl) c.in-None.ensures.boards (nothing_drawn (board_at m n) (board_at m n).order none)
-          (c.in-ok-check-node.ensures.rule (draw n) _ ∙ ap (draws m n) (sym none)) refl;
+          (c.in_ok-check-node.ensures.rule (draw n) _ ∙ ap (draws m n) (sym none)) refl;
       token = tt;
     }

@@ -7,13 +7,13 @@ use Rattle.system.specs.Systems.{moment}
 use Rattle.system.proofs.Steps.{quiet_board, unmoved, stopped}
 use Rattle.system.proofs.system.System.read.Goals as goal
 
-pub returns-in-err-address : goal.returns-in-err-address
-returns-in-err-address g c =
+pub returns-in_err-address : goal.returns-in_err-address
+returns-in_err-address g c =
     let m = moment g.N.Network c.args.self.now in
     let q : Read = record { address = c.args.address; frame = c.args.frame; instruction = c.args.instruction } in
     let call = read c.args.node q in
-    stopped g.N.Network {m = m} call _ c.in-err-address.field-0.0 c.from-residual.result (err_from_is_err_and c.from-residual.result c.from-residual.ensures.1) (refl, refl) (refl, refl)
-    (c.in-err-address.ensures.rule call _) refl
+    stopped g.N.Network {m = m} call _ c.in_err-address.field-0.0 c.from-residual.result (err_from_is_err_and c.from-residual.result c.from-residual.ensures.1) (refl, refl) (refl, refl)
+    (c.in_err-address.ensures.rule call _) refl
 
 pub returns-in-Ok : goal.returns-in-Ok
 returns-in-Ok g c =
@@ -22,10 +22,10 @@ returns-in-Ok g c =
     let of : _ → Read = λ a. record { address = a; frame = c.args.frame; instruction = c.args.instruction } in
     let q = of c.args.address in
     let free = sym c.in-Ok.ensures.answer in
-    let same = ap of c.in-ok-address.ensures.within.1 in
+    let same = ap of c.in_ok-address.ensures.within.1 in
     quiet_board g.N.Network {m = m} (read n q) _ n (given (board_at m n) q (Some c.in-Ok.place)) (refl, refl) (refl, refl)
     (c.in-Ok.ensures.boards ∙ (λ i. set m.boards n (given (board_at m n) (same i) (free i))))
-    (c.in-ok-address.ensures.rule (read n q) _ ∙ ap (reads m n q) free) refl
+    (c.in_ok-address.ensures.rule (read n q) _ ∙ ap (reads m n q) free) refl
 
 pub returns-in-Err : goal.returns-in-Err
 returns-in-Err g c =
@@ -34,4 +34,4 @@ returns-in-Err g c =
     let q : Read = record { address = c.args.address; frame = c.args.frame; instruction = c.args.instruction } in
     let none = sym c.in-Err.ensures.answer in
     unmoved g.N.Network {m = m} (read n q) _ n _ (refl, refl) (refl, refl) c.in-Err.ensures.boards (ap (given (board_at m n) _) none)
-    (c.in-ok-address.ensures.rule (read n q) _ ∙ ap (reads m n q) none) refl
+    (c.in_ok-address.ensures.rule (read n q) _ ∙ ap (reads m n q) none) refl

@@ -24,8 +24,8 @@ unwrap-board-requires g c =
     let s = sizes c.args.nodes c.args.lines c.args.cells (sym c.if-bad-sizes.ensures) in
     is_made c.args.lines c.new.result s.1.0.0 s.1.0.1 c.new.ensures
 
-pub invariant-of-self : goal.invariant-of-self
-invariant-of-self g c =
+pub invariant_of-self : goal.invariant_of-self
+invariant_of-self g c =
     let s = sizes c.args.nodes c.args.lines c.args.cells (sym c.if-bad-sizes.ensures) in
     (s.0.1, (s.1.1.1, ((λ _. s.1.1.0), (omega arith, tt))))
 

@@ -7,12 +7,12 @@ use Rattle.system.specs.Systems.{moment}
 use Rattle.system.proofs.Steps.{quiet_board, unmoved, stopped}
 use Rattle.system.proofs.system.System.write.Goals as goal
 
-pub returns-in-err-address : goal.returns-in-err-address
-returns-in-err-address g c =
+pub returns-in_err-address : goal.returns-in_err-address
+returns-in_err-address g c =
     let m = moment g.N.Network c.args.self.now in
     let call = write c.args.node c.args.address c.args.word in
-    stopped g.N.Network {m = m} call _ c.in-err-address.field-0.0 c.from-residual.result (err_from_is_err_and c.from-residual.result c.from-residual.ensures.1) (refl, refl) (refl, refl)
-    (c.in-err-address.ensures.rule call _) refl
+    stopped g.N.Network {m = m} call _ c.in_err-address.field-0.0 c.from-residual.result (err_from_is_err_and c.from-residual.result c.from-residual.ensures.1) (refl, refl) (refl, refl)
+    (c.in_err-address.ensures.rule call _) refl
 
 pub returns-in-Ok : goal.returns-in-Ok
 returns-in-Ok g c =
@@ -23,8 +23,8 @@ returns-in-Ok g c =
     let may = sym c.in-Ok.ensures.answer in
     quiet_board g.N.Network {m = m} (write n a v) _ n (written (board_at m n) a v) (refl, refl) (refl, refl)
     (c.in-Ok.ensures.boards
-    ∙ ap (set m.boards n) (cond-true (may_write (board_at m n)) _ _ may ∙ ap (λ b. written (board_at m n) b v) c.in-ok-address.ensures.within.1))
-    (c.in-ok-address.ensures.rule (write n a v) _ ∙ cond-true (may_write (board_at m n)) _ _ may) refl
+    ∙ ap (set m.boards n) (cond-true (may_write (board_at m n)) _ _ may ∙ ap (λ b. written (board_at m n) b v) c.in_ok-address.ensures.within.1))
+    (c.in_ok-address.ensures.rule (write n a v) _ ∙ cond-true (may_write (board_at m n)) _ _ may) refl
 
 pub returns-in-Err : goal.returns-in-Err
 returns-in-Err g c =
@@ -33,4 +33,4 @@ returns-in-Err g c =
     let call = write n c.args.address c.args.word in
     let may-not = sym c.in-Err.ensures.answer in
     unmoved g.N.Network {m = m} call _ n _ (refl, refl) (refl, refl) c.in-Err.ensures.boards (cond-false (may_write (board_at m n)) _ _ may-not)
-    (c.in-ok-address.ensures.rule call _ ∙ cond-false (may_write (board_at m n)) _ _ may-not) refl
+    (c.in_ok-address.ensures.rule call _ ∙ cond-false (may_write (board_at m n)) _ _ may-not) refl
