@@ -1,5 +1,5 @@
 -- `members` lists a set, and `joined` adds one node to it.
-use Rattle.std.proofs.Common.{◌≡◌, ℕ, zero, suc, ◌+◌, ◌-◌, ◌*◌, ◌/◌, ◌%◌, ◌^◌, ◌<◌, ◌≤◌, max, ◌⊎◌, List, [], ◌∷◌, sym, refl, ap, ◌∙◌, subst, inl, inr, ⊎_elim, le_refl, pow-suc, zero-add, arith}
+use Rattle.std.proofs.Common.{◌≡◌, ℕ, zero, suc, ◌+◌, ◌/◌, ◌%◌, ◌^◌, ◌<◌, max, ◌⊎◌, List, [], ◌∷◌, sym, refl, ap, ◌∙◌, subst, inl, inr, ⊎_elim, le_refl, pow-suc, zero-add, arith}
 use Rattle.std.proofs.lemmas.Nat.{shr-shr, pow_below}
 use lib.Bits.{bit_or, or_step, or_shr, or_zero_r, or_lt}
 use lib.Count.{ones, ones_step}

@@ -1,8 +1,8 @@
 -- One step of waking the places that wait.
 use Rattle.std.proofs.Common.{◌≡◌, ℕ, ◌+◌, ◌<◌, ◌≤◌, cond, eqb, List, [], ◌∷◌, ◌++◌, length, get_or, drop, set, sym, refl, ap, ◌∙◌, arith}
-use Rattle.std.proofs.lemmas.List.{at_drop_more, at_drop_all, append_assoc, append-nil, length-append, length-drop}
+use Rattle.std.proofs.lemmas.List.{at_drop_more, append_assoc, length-append, length-drop}
 use Rattle.lines.specs.Facts.{times, if_deferred}
-use Rattle.lines.specs.Model.{Place, free, ready, read_of, woken}
+use Rattle.lines.specs.Model.{Place, free, ready, read_of}
 use Rattle.lines.proofs.Counts.{times-here}
 use Rattle.lines.proofs.Marks.{goes, marked_within, one_state}
 

@@ -8,6 +8,7 @@ ghost use Rattle.protocol.specs.Moments.{waiters};
 use home::{Cell, Replies, WrittenTwice};
 use network::Message;
 
+#[derive(Clone, Copy)]
 pub(crate) struct Memory {
     cells: [Cell; 1024],
     waiting: usize,
@@ -15,8 +16,6 @@ pub(crate) struct Memory {
     ghost counted: { waiting ≡ sum_by waiters cells },
     ghost few: { ((a : ℕ) → waiters (slice_index_or cells a Undefined) ≤ 16) },
 }
-
-impl Copy for Memory {}
 
 // The nodes that wait at a cell.
 fn waiters(cell: Cell) -> usize

@@ -17,7 +17,7 @@ returns c = record {
       let stored : to_bits binary32 e ≡ 0x7FC00000 =
       ap (to_bits binary32) (sym (of_bits-to_bits binary32 e g) ∙ ap (of_bits binary32) p) in
       omega arith);
-  array = c.array-word.ensures;
+  array = c.array_word.ensures;
   not_an_array = refusal _ _ _ _ c.open-2.ensures (λ e g p. omega arith);
   memory = memory.edges;
 }

@@ -1,4 +1,4 @@
-use Rattle.std.proofs.Common.{sym, refl, arith, rules}
+use Rattle.std.proofs.Common.{sym, refl, arith}
 use lib.Count.{ones-le}
 use Rattle.home.proofs.Lowest.{members_count}
 use Rattle.home.proofs.set.NodeSet.len.Goals as goal

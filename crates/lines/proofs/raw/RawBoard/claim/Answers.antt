@@ -1,4 +1,4 @@
-use Rattle.std.proofs.Common.{◌≡◌, ℕ, ◌<◌, Bool, List, map, length, get_or, Option, sym, ap, ◌∙◌, subst, arith}
+use Rattle.std.proofs.Common.{◌≡◌, ℕ, ◌<◌, List, map, length, get_or, Option, ap, ◌∙◌, arith}
 use Rattle.bounded.specs.Listed.{listed}
 use Rattle.rounds.specs.Rounds.{first_round}
 use Rattle.lines.specs.declared.types.Line.{Line}

@@ -1,6 +1,6 @@
-use Rattle.std.proofs.Common.{ℕ, ◌+◌, ◌≤◌, List, ◌++◌, length, sym, ap, ◌∙◌, subst}
+use Rattle.std.proofs.Common.{ℕ, ◌+◌, ◌≤◌, List, length, sym, ap, ◌∙◌, subst}
 use Rattle.lines.specs.Facts.{times, if_deferred}
-use Rattle.lines.specs.Model.{waits, woken, place_at}
+use Rattle.lines.specs.Model.{waits, place_at}
 use Rattle.lines.specs.Raws.{raw_tables}
 use Rattle.lines.proofs.Looks.{listed_mark}
 use Rattle.lines.proofs.Room.{wake_room}

@@ -1,5 +1,5 @@
 use Rattle.std.proofs.Common.{◌≡◌, ◌-◌}
-use Rattle.rounds.specs.Rounds.{after, first_of}
+use Rattle.rounds.specs.Rounds.{first_of}
 use Rattle.lines.specs.Model.{is_free, place_at, free_place}
 use Rattle.lines.specs.Raws.{raw_tables}
 use Rattle.lines.proofs.raw.RawBoard.free_place.Given as goal

@@ -1,4 +1,4 @@
-use Rattle.std.proofs.Common.{map, sym, ap, ◌∙◌, arith}
+use Rattle.std.proofs.Common.{map, sym, ap, arith}
 use Rattle.bounded.specs.Listed.{listed}
 use Rattle.lines.specs.Model.{writes, reading}
 use Rattle.lines.specs.Plain.{plain_command}

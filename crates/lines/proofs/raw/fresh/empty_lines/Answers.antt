@@ -1,4 +1,4 @@
-use Rattle.std.proofs.Common.{◌≡◌, [], ◌∷◌, ◌++◌, map, length, ap, ◌∙◌, arith, lit<}
+use Rattle.std.proofs.Common.{[], ◌∷◌, ◌++◌, map, length, ap, ◌∙◌, arith, lit<}
 use Rattle.bounded.specs.Listed.{listed}
 use Rattle.std.proofs.lemmas.List.{length-map, length-replicate, map_push, replicate_more}
 use Rattle.lines.specs.declared.types.Line.TheVariants.{Empty}

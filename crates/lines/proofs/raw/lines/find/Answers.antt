@@ -1,4 +1,4 @@
-use Rattle.std.proofs.Common.{◌≡◌, sym, ◌∙◌, arith}
+use Rattle.std.proofs.Common.{sym, ◌∙◌, arith}
 use Rattle.lines.specs.Plain.{plain_found}
 use Rattle.lines.proofs.Searches.{found_at, found_out, told}
 use Rattle.lines.proofs.raw.lines.find.Goals as goal

@@ -1,4 +1,4 @@
-use Rattle.std.proofs.Common.{◌≡◌, ◌+◌, ◌≤◌, List, ◌++◌, map, length, drop, sym, ap, ◌∙◌, subst, arith, lit<}
+use Rattle.std.proofs.Common.{◌+◌, ◌≤◌, List, ◌++◌, map, length, drop, sym, ap, ◌∙◌, subst, arith, lit<}
 use Rattle.bounded.specs.Listed.{listed}
 use Rattle.std.proofs.lemmas.List.{at_drop_more, at_drop_all, append-nil, length-append}
 use Rattle.lines.specs.Model.{Place, woken}

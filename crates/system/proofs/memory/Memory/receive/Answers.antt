@@ -24,10 +24,4 @@ invariant_of-self c =
     let i = c.index-address.result in
     let y = c.receive-answer.new.self in
     let h : i < length s.cells = omega (arith, s.whole, c.index-address.ensures.bound) in
-    let fits : waiters y ≤ 16 = subst (λ k. k ≤ 16) c.waiters-2.ensures.value c.waiters-2.ensures.few in (
-      length-set s.cells i y ∙ s.whole,
-      (
-        omega (arith, c.waiters.ensures.value, c.waiters-2.ensures.value, sum_by-set waiters s.cells i y Undefined h, get_or-le-sum_by waiters s.cells i Undefined h, s.counted),
-        (few_set s.cells i y s.few fits, tt),
-      ),
-    )
+    let fits : waiters y ≤ 16 = subst (λ k. k ≤ 16) c.waiters-2.ensures.value c.waiters-2.ensures.few in record { whole = length-set s.cells i y ∙ s.whole; counted = omega (arith, c.waiters.ensures.value, c.waiters-2.ensures.value, sum_by-set waiters s.cells i y Undefined h, get_or-le-sum_by waiters s.cells i Undefined h, s.counted); few = few_set s.cells i y s.few fits }

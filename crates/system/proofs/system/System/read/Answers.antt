@@ -12,7 +12,7 @@ returns-in_err-address g c =
     let m = moment g.N.Network c.args.self.now in
     let q : Read = record { address = c.args.address; frame = c.args.frame; instruction = c.args.instruction } in
     let call = read c.args.node q in
-    stopped g.N.Network {m = m} call _ c.in_err-address.field-0.0 c.from-residual.result (err_from_is_err_and c.from-residual.result c.from-residual.ensures.1) (refl, refl) (refl, refl)
+    stopped g.N.Network {m = m} call _ c.in_err-address.field-0.0 c.from_residual.result (err_from_is_err_and c.from_residual.result c.from_residual.ensures.1) (refl, refl) (refl, refl)
     (c.in_err-address.ensures.rule call _) refl
 
 pub returns-in-Ok : goal.returns-in-Ok

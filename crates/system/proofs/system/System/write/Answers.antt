@@ -11,7 +11,7 @@ pub returns-in_err-address : goal.returns-in_err-address
 returns-in_err-address g c =
     let m = moment g.N.Network c.args.self.now in
     let call = write c.args.node c.args.address c.args.word in
-    stopped g.N.Network {m = m} call _ c.in_err-address.field-0.0 c.from-residual.result (err_from_is_err_and c.from-residual.result c.from-residual.ensures.1) (refl, refl) (refl, refl)
+    stopped g.N.Network {m = m} call _ c.in_err-address.field-0.0 c.from_residual.result (err_from_is_err_and c.from_residual.result c.from_residual.ensures.1) (refl, refl) (refl, refl)
     (c.in_err-address.ensures.rule call _) refl
 
 pub returns-in-Ok : goal.returns-in-Ok

@@ -8,6 +8,6 @@ pub returns : goal.returns
 returns c =
     let at = there tables c.args.boards.now c.args.n (start 1) c.index-boards-n.result c.requires in
     record {
-      answer = c.put-back.ensures.answer ∙ ap (λ t. is_drawn (place_at t c.args.place)) (sym at);
-      boards = there_set tables c.args.boards.now c.args.n (start 1) c.put-back.new.self _ (c.put-back.ensures.after ∙ ap (λ t. returned t c.args.place) (sym at));
+      answer = c.put_back.ensures.answer ∙ ap (λ t. is_drawn (place_at t c.args.place)) (sym at);
+      boards = there_set tables c.args.boards.now c.args.n (start 1) c.put_back.new.self _ (c.put_back.ensures.after ∙ ap (λ t. returned t c.args.place) (sym at));
     }

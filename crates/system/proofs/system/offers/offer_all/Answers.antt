@@ -26,7 +26,7 @@ returns g c =
     let first = c.args.network.now in
     let last = c.loop-reply.network in
     let none = sym c.in-None.ensures.steps in
-    let into = ap pending c.into-iter-reply-iterator.ensures.into-iter-gives in
+    let into = ap pending c.into_iter-reply-iterator.ensures.into_iter_gives in
     record {
       offers = subst (λ ms. Offers net first ms last) into (c.loop-reply.invariant.1 last (subst (λ ms. Offers net last ms last) none refl));
       bag = subst (λ ms. Offered (net.bound first) (map plain (net.bag first)) ms (map plain (net.bag last))) into
