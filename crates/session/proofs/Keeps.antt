@@ -32,7 +32,10 @@ all_facts (b ∷ bs) (suc n) = all_facts bs n
 
 -- what the ghost fields of a session say
 abbrev pub Parks : {N : Type 0} → System N → List (List Bool) → Type 0
-Parks s rows = ((n p : ℕ) → is_parked rows n p ≡ drawn_at s.boards n p) × (((n p : ℕ) → drawn_at s.boards n p ≡ true → n < s.nodes) × Unit {0})
+Parks s rows = record {
+  parked : (n p : ℕ) → is_parked rows n p ≡ drawn_at s.boards n p;
+  at_work : (n p : ℕ) → drawn_at s.boards n p ≡ true → n < s.nodes;
+}
 
 module _ {N : Type 0} (net : Ghosts N) (s s' : System N) (c : Call) (e : Event) (w : (n p : ℕ) → drawn_at s.boards n p ≡ true → n < s.nodes) (done : Called net s c e s') where
   shows : Shows (moment net s) (does (moment net s) c (option_map plain done.made.got))
@@ -45,7 +48,7 @@ module _ {N : Type 0} (net : Ghosts N) (s s' : System N) (c : Call) (e : Event) 
   work_next = subst AtWork (sym done.made.leaves) shows.within
 
   parks_next : (rows rows' : List (List Bool)) → ((n p : ℕ) → is_parked rows n p ≡ drawn_at s.boards n p) → ((n p : ℕ) → is_parked rows' n p ≡ marks e n p (is_parked rows n p)) → Parks s' rows'
-  parks_next rows rows' was now = ((λ n p. now n p ∙ ap (marks e n p) (was n p) ∙ sym (drawn_next n p)), (work_next, tt))
+  parks_next rows rows' was now = record { parked = λ n p. now n p ∙ ap (marks e n p) (was n p) ∙ sym (drawn_next n p); at_work = work_next }
 
 -- a call that draws, finishes and puts back nothing
 pub parks_kept : {N : Type 0} (net : Ghosts N) (s s' : System N) (c : Call) {X : Type 0} (taken : X → Event) (r : Result X SystemFault) (rows : List (List Bool)) → ((x : X) (n p : ℕ) (b : Bool) → marks (taken x) n p b ≡ b)
@@ -98,7 +101,7 @@ first_undrawn (then c r s) e n p = absurd (let z : ◌≡◌ {A = ℕ} 0 1 = cc 
 
 pub begins : {N : Type 0} (net : Ghosts N) (s : System N) (rows : List (List Bool)) → Reached [] (moment net s) → ((n p : ℕ) → is_parked rows n p ≡ false) → Parks s rows
 begins net s rows first none =
-    ((λ n p. none n p ∙ sym (first_undrawn first refl n p)), ((λ n p y. absurd (false≢true (sym (first_undrawn first refl n p) ∙ y))), tt))
+    record { parked = λ n p. none n p ∙ sym (first_undrawn first refl n p); at_work = λ n p y. absurd (false≢true (sym (first_undrawn first refl n p) ∙ y)) }
 
 -- a place that is not drawn: the call is refused, and all stays
 pub stays : {N : Type 0} (net : Ghosts N) (s : System N) (c : Call) (why : Refusal) → Takes net (moment net s) c s.network None s.network → Asks (moment net s) c None (moment net s).bag

@@ -16,4 +16,4 @@ pub struct Session<N> {
 mod begin;
 mod calls;
 mod drawing;
-mod lines;
+mod script_lines;

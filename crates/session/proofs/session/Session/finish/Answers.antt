@@ -21,4 +21,4 @@ invariant_of-self-2 g c =
     let was = c.args.self.now in
     let up = c.in-Some.ensures in
     parks_taken_up g.N.Network was.system c.finish.new.self finish finished c.args.node c.args.place c.in-Some.token.node c.in-Some.token.place c.finish.result
-    was.parking.places c.take-up.new.self.places finish_taken (λ i b j x y. refl) up.token.0 up.token.1 was.parked was.at_work up.answer c.finish.ensures up.token.2
+    was.parking.places c.take_up.new.self.places finish_taken (λ i b j x y. refl) up.token.0 up.token.1 was.parked was.at_work up.answer c.finish.ensures up.token.2

@@ -20,5 +20,5 @@ pub invariant_of-self-2 : goal.invariant_of-self-2
 invariant_of-self-2 g c =
     let was = c.args.self.now in
     let up = c.in-Some.ensures in
-    parks_taken_up g.N.Network was.system c.put-back.new.self put_back returned c.args.node c.args.place c.in-Some.token.node c.in-Some.token.place c.put-back.result
-    was.parking.places c.take-up.new.self.places put_back_taken (λ i b j x y. refl) up.token.0 up.token.1 was.parked was.at_work up.answer c.put-back.ensures up.token.2
+    parks_taken_up g.N.Network was.system c.put_back.new.self put_back returned c.args.node c.args.place c.in-Some.token.node c.in-Some.token.place c.put_back.result
+    was.parking.places c.take_up.new.self.places put_back_taken (λ i b j x y. refl) up.token.0 up.token.1 was.parked was.at_work up.answer c.put_back.ensures up.token.2
