@@ -1,6 +1,6 @@
 -- The lines of the example are its calls, and what they are told is computed.
 use Rattle.std.proofs.Common.{◌≡◌, ℕ, zero, suc, ◌+◌, ◌<◌, List, [], ◌∷◌, map, reverse, length, get_or, take, set, sym, refl, ap, ◌∙◌, subst, add-one, arith, take-suc-set, Bor, rules}
-use Rattle.std.specs.List.{AllByRecursion as All}
+use Rattle.std.specs.List.{AllByRecursion}
 use Rattle.std.specs.Fmt.{digits}
 use Rattle.std.proofs.lemmas.List.{length-map, get_or-map, take_all, reverse-append, reverse-reverse}
 use Rattle.std.proofs.ByRecursion.{All-get_or}
@@ -46,7 +46,7 @@ spelled : lines ≡ map call_text calls
 unfolding digits
 spelled = refl
 
-fit : All Fits calls
+fit : AllByRecursion Fits calls
 fit = search rules
 
 abbrev call_at : ℕ → script.Call

@@ -1,6 +1,6 @@
 -- What the parts of a board keep as they change: its places, its commands, its lines.
 use Rattle.std.proofs.Common.{◌≡◌, ℕ, ◌+◌, ◌*◌, ◌<◌, ◌≤◌, cond, eqb, List, ◌∷◌, length, get_or, set, sum_by, sym, refl, ap, ◌∙◌, subst, inl, inr, arith}
-use Rattle.std.specs.List.{AllByRecursion as All}
+use Rattle.std.specs.List.{AllByRecursion}
 use Rattle.std.proofs.ByRecursion.{All-get_or, All-set, All-weaker}
 use Rattle.std.proofs.lemmas.List.Sums.{sum_by-set}
 use Rattle.std.proofs.lemmas.Bool.{eq-eqb, ne_eqb, cond-true, cond-false}
@@ -143,7 +143,7 @@ module _ (v v' : View) (up : Up v v') (n : ℕ) (h : List Event) (ps : List Plac
 
 -- the lines of node n
 module _ (v v' : View) (up : Up v v') (n : ℕ) (ls : List Line) (inv : LinesOk v n ls) where
-  pub each_line_kept : All (LineOk v') ls
+  pub each_line_kept : AllByRecursion (LineOk v') ls
   each_line_kept = All-weaker (LineOk v) (LineOk v') (line_up v v' up) ls inv.each
 
   pub line_ok : (i : ℕ) (x : Line) → i < length ls → get_or ls i empty ≡ x → LineOk v' x

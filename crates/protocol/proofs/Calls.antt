@@ -17,7 +17,7 @@ use Rattle.protocol.specs.Moments.{Moment, is_started, board_at, place_at, trans
 use Rattle.protocol.specs.Moments.{Call, start, read, write, act, draw, finish, put_back}
 use Rattle.protocol.specs.Moments.{Layer, Event, at, refused, accepted, wrote, acted, drew, finished, returned}
 use Rattle.protocol.specs.Moments as layer
-use Rattle.protocol.specs.Steps.{Outcome, takes, refusal, refuse, once_started, at_node, at_address, reads, writes, acts, draws, finishes, puts_back, Step}
+use Rattle.protocol.specs.Steps.{Outcome, takes, refusal, refuse, once_started, at_node, at_address, reads, writes, acts, draws, finishes, puts_back}
 use Rattle.protocol.specs.Counts.{same}
 use Rattle.protocol.proofs.Count.{same_apart}
 use Rattle.protocol.proofs.Inv.{InvAt, Inv}

@@ -1,6 +1,6 @@
 -- Counts: the laws of `same` and `sum_to`, and of a list with one element less or one replaced.
 use Rattle.std.proofs.Common.{◌≡◌, ℕ, zero, suc, ◌+◌, ◌*◌, ◌<◌, ◌≤◌, eqb, ◌⊎◌, List, [], ◌∷◌, length, get_or, set, Some, sum_by, sym, refl, ap, subst, ap₂, inl, inr, arith}
-use Rattle.std.specs.List.{slice_get, remove, AllByRecursion as All}
+use Rattle.std.specs.List.{slice_get, remove, AllByRecursion}
 use Rattle.std.proofs.lemmas.List.{get_or-set_same, get_or-set_other}
 use Rattle.std.proofs.lemmas.List.Sums.{sum_by-cons}
 use Rattle.std.proofs.lemmas.Bool.{eq-eqb, ne_eqb, cond-true, cond-false, cases_eq}
@@ -81,7 +81,7 @@ sum_removed f [] k x e = absurd (let z : ◌≡◌ {A = ℕ} 0 1 = cc in let n :
 sum_removed f (y ∷ ys) zero x e = let s : y ≡ x = cc in omega (arith, sum_by-cons f y ys, ap f s)
 sum_removed f (y ∷ ys) (suc k) x e = omega (arith, sum_by-cons f y ys, sum_by-cons f y (remove ys k), sum_removed f ys k x e)
 
-pub all_removed : {X : Type 0} (P : X → Type 0) (xs : List X) (k : ℕ) (x : X) → slice_get xs k ≡ Some x → All P xs → P x × All P (remove xs k)
+pub all_removed : {X : Type 0} (P : X → Type 0) (xs : List X) (k : ℕ) (x : X) → slice_get xs k ≡ Some x → AllByRecursion P xs → P x × AllByRecursion P (remove xs k)
 all_removed P [] k x e h = absurd (let z : ◌≡◌ {A = ℕ} 0 1 = cc in let n : ⊥ = omega arith in n)
 all_removed P (y ∷ ys) zero x e h = let s : y ≡ x = cc in (subst P s h.0, h.1)
 all_removed P (y ∷ ys) (suc k) x e h = let r = all_removed P ys k x e h.1 in (r.0, (h.0, r.1))

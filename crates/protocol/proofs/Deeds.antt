@@ -1,6 +1,6 @@
 -- What a board does in each call, from a memory that a run reached.
 use Rattle.std.proofs.Common.{◌≡◌, ℕ, zero, suc, ◌+◌, ◌*◌, ◌/◌, ◌%◌, ◌<◌, ◌≤◌, cond, eqb, List, [], ◌∷◌, ◌++◌, length, get_or, set, Some, sum_by, sym, refl, ap, ◌∙◌, subst, inl, inr, div-lt_iff_lt-mul, arith}
-use Rattle.std.specs.List.{slice_get, remove, AllByRecursion as All}
+use Rattle.std.specs.List.{slice_get, remove, AllByRecursion}
 use Rattle.std.proofs.ByRecursion.{All-weaker, All-push}
 use Rattle.std.proofs.lemmas.List.Sums.{sum_by-cons, sum_by_push, sum_by-set, get_or-le-sum_by}
 use Rattle.std.proofs.lemmas.Bool.{eq-eqb, cases_eq}
@@ -76,14 +76,14 @@ module _ (h : List Event) (m : Moment) (bag : List Plain) (inv : InvAt h m bag) 
   within : (p : ℕ) → p < 32 → p < length t.places
   within p few = omega (arith, s.all_places)
 
-  commands_kept : (v' : View) → Up v v' → All (CommandOk v') t.commands
+  commands_kept : (v' : View) → Up v v' → AllByRecursion (CommandOk v') t.commands
   commands_kept v' up = All-weaker (CommandOk v) (CommandOk v') (command_up v v' up) t.commands b.commands
 
-  commands_less : (k : ℕ) (c : Command) → slice_get t.commands k ≡ Some c → (v' : View) → Up v v' → CommandOk v' c × All (CommandOk v') (remove t.commands k)
+  commands_less : (k : ℕ) (c : Command) → slice_get t.commands k ≡ Some c → (v' : View) → Up v v' → CommandOk v' c × AllByRecursion (CommandOk v') (remove t.commands k)
   commands_less k c e v' up = all_removed (CommandOk v') t.commands k c e (commands_kept v' up)
 
   -- a call that takes no message
-  at_board : (d : Deed) (t' : Tables) (added : List Plain) → Facts t' → ((v' : View) → Next v v' n (at n d) [] added → BoardInv v' n (at n d ∷ h) t') → ((v' : View) → Up v v' → All (MessageOk v') added)
+  at_board : (d : Deed) (t' : Tables) (added : List Plain) → Facts t' → ((v' : View) → Next v v' n (at n d) [] added → BoardInv v' n (at n d ∷ h) t') → ((v' : View) → Up v v' → AllByRecursion (MessageOk v') added)
       → ((a : ℕ) → sum_by (is_write a) (from_deed n d) + sum_by (is_writing a) t.commands ≡ sum_by (is_writing a) t'.commands + sum_by (is_write_to a) added) → DeedOk h d → OnBoard h m bag n (at n d) t' [] added
   at_board d t' added facts did sends count sound = record {
     facts = facts;
@@ -123,7 +123,7 @@ module _ (h : List Event) (m : Moment) (bag : List Plain) (inv : InvAt h m bag) 
   did_draw p q w few was t' facts same-commands now same_lines = at_board (drew p q w) t' [] facts
       (λ v' next. record {
         places = subst (PlacesOk v' n (at n (drew p q w) ∷ h)) (sym now) (places_drawn v v' next.up n h t.places b.places p few (within p few) q w was);
-        commands = subst (All (CommandOk v')) (sym same-commands) (commands_kept v' next.up);
+        commands = subst (AllByRecursion (CommandOk v')) (sym same-commands) (commands_kept v' next.up);
         lines = subst (LinesOk v' n) (sym same_lines) (still v' (at n (drew p q w)) [] next);
       })
       (λ v' up. tt) (λ a. omega (arith, ap (sum_by (is_writing a)) same-commands)) (subst (PlaceOk v (deeds n h) p) was (b.places.each p)).1
@@ -161,7 +161,7 @@ module _ (h : List Event) (m : Moment) (bag : List Plain) (inv : InvAt h m bag) 
 
     read_done : (c : ℕ) (y : Place) (last : ℕ) (ls : List Line) (hand : ℕ) (order : List ℕ) (added : List Plain) → Facts (tables (remove t.commands k) (set t.places p y) last ls hand order)
         → ((r : Read) → in_place r y ≡ in_place r (held q)) → ((v' : View) → Next v v' n (at n (acted k c)) [] added → PlaceOk v' (deeds n (at n (acted k c) ∷ h)) p y × LinesOk v' n ls)
-        → ((v' : View) → Up v v' → All (MessageOk v') added) → ((a : ℕ) → sum_by (is_write_to a) added ≡ 0)
+        → ((v' : View) → Up v v' → AllByRecursion (MessageOk v') added) → ((a : ℕ) → sum_by (is_write_to a) added ≡ 0)
         → OnBoard h m bag n (at n (acted k c)) (tables (remove t.commands k) (set t.places p y) last ls hand order) [] added
     read_done c y last ls hand order added facts same ok sends none = at_board (acted k c) _ added facts
         (λ v' next. record {

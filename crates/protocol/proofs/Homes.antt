@@ -2,7 +2,7 @@
 use Rattle.std.proofs.Common.{◌≡◌, ℕ, ◌+◌, ◌*◌, ◌/◌, ◌%◌, ◌^◌, ◌<◌, ◌≤◌, ◌⊎◌, List, [], ◌∷◌, length, Some, Ok, Err, sum_by, Result, sym, refl, ap, ◌∙◌, subst, inl, inr, arith}
 use lib.Count.{ones}
 use lib.ListN.{length-map}
-use Rattle.std.specs.List.{AllByRecursion as All}
+use Rattle.std.specs.List.{AllByRecursion}
 use Rattle.std.proofs.lemmas.Nat.{pow_below}
 use Rattle.std.proofs.ByRecursion.{All-weaker, All-map}
 use Rattle.std.proofs.lemmas.List.{length-set, get_or-set_same}
@@ -39,7 +39,7 @@ pub record AtHome (v : View) (h : List Event) (a : ℕ) (c : Cell) (x : Plain) (
   pub unwritten : (b : ℕ) → sum_by (is_write_to b) added ≡ 0
   pub asked : (n : ℕ) → 1 ≤ asks n a x + is_member n c → 1 ≤ sum_by (asks n a) added + is_member n d
   pub cell : CellOk v a d
-  pub sends : (v' : View) → Up v v' → (stored d ≡ 1 → 1 ≤ v'.written a) → All (MessageOk v') added
+  pub sends : (v' : View) → Up v v' → (stored d ≡ 1 → 1 ≤ v'.written a) → AllByRecursion (MessageOk v') added
   pub room : length added + waiters d ≤ 1 + waiters c
 
 pub inv_home : (h : List Event) (m : Moment) (bag : List Plain) (a : ℕ) (x : Plain) (e : Event) (d : Cell) (added next : List Plain) → InvAt h m bag → 0 < m.nodes → a < 1024
@@ -98,7 +98,7 @@ unfolding Holds
 count_holds k [] h = absurd (let f : ⊥ = omega arith in f)
 count_holds k (x ∷ xs) h = elim (same_or k x) [ inl e ↦ inl (sym e.0) | inr e ↦ inr (count_holds k xs (omega (arith, sum_by-cons (same k) x xs, e.1))) ]
 
-all_holds : (P : ℕ → Type 0) (xs : List ℕ) → ((k : ℕ) → Holds xs k → P k) → All P xs
+all_holds : (P : ℕ → Type 0) (xs : List ℕ) → ((k : ℕ) → Holds xs k → P k) → AllByRecursion P xs
 unfolding Holds
 all_holds P [] h = tt
 all_holds P (x ∷ xs) h = (h x (inl refl), all_holds P xs (λ k i. h k (inr i)))
@@ -165,7 +165,7 @@ module _ (v : View) (h : List Event) (x : Plain) (i : ℕ) where
 
   -- a READ that leaves the cell as much defined as it was
   read_at : (c d : Cell) (added : List Plain) → stored c ≡ stored d → ((b : ℕ) → sum_by (is_write_to b) added ≡ 0) → ((n : ℕ) → 1 ≤ same n x.from * same a a + is_member n c → 1 ≤ sum_by (asks n a) added + is_member n d)
-      → CellOk v a d → ((v' : View) → Up v v' → (stored d ≡ 1 → 1 ≤ v'.written a) → All (MessageOk v') added) → length added + waiters d ≤ 1 + waiters c → AtHome v h a c (of kind.Read x) (delivered i 0) d added
+      → CellOk v a d → ((v' : View) → Up v v' → (stored d ≡ 1 → 1 ≤ v'.written a) → AllByRecursion (MessageOk v') added) → length added + waiters d ≤ 1 + waiters c → AtHome v h a c (of kind.Read x) (delivered i 0) d added
   read_at c d added same-stored none asked cell sends room = record {
     mute = mute_delivered h i 0;
     no_write = λ b. refl;
@@ -182,7 +182,7 @@ module _ (v : View) (h : List Event) (x : Plain) (i : ℕ) where
 
   -- a WRITE that defines the cell
   write_at : (c d : Cell) (added : List Plain) → stored c ≡ 0 → stored d ≡ 1 → ((b : ℕ) → sum_by (is_write_to b) added ≡ 0) → ((n : ℕ) → 1 ≤ is_member n c → 1 ≤ sum_by (asks n a) added)
-      → CellOk v a d → ((v' : View) → Up v v' → (stored d ≡ 1 → 1 ≤ v'.written a) → All (MessageOk v') added) → length added + waiters d ≤ 1 + waiters c → AtHome v h a c (of kind.Write x) (delivered i 0) d added
+      → CellOk v a d → ((v' : View) → Up v v' → (stored d ≡ 1 → 1 ≤ v'.written a) → AllByRecursion (MessageOk v') added) → length added + waiters d ≤ 1 + waiters c → AtHome v h a c (of kind.Write x) (delivered i 0) d added
   write_at c d added was is none asked cell sends room = record {
     mute = mute_delivered h i 0;
     no_write = λ b. refl;

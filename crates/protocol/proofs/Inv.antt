@@ -1,6 +1,6 @@
 -- What every run keeps.
 use Rattle.std.proofs.Common.{◌≡◌, ℕ, ◌+◌, ◌*◌, ◌/◌, ◌^◌, ◌<◌, ◌≤◌, List, [], ◌∷◌, length, get_or, sum_by, refl, ◌∙◌, arith}
-use Rattle.std.specs.List.{AllByRecursion as All}
+use Rattle.std.specs.List.{AllByRecursion}
 use Rattle.std.proofs.lemmas.List.Sums.{sum_by-append}
 use Rattle.network.specs.declared.message.Kind.{Kind}
 use Rattle.network.specs.declared.message.Kind.TheVariants as kind
@@ -86,12 +86,12 @@ pub record PlacesOk (v : View) (n : ℕ) (h : List Event) (ps : List Place) : Ty
   pub each : (p : ℕ) → PlaceOk v (deeds n h) p (get_or ps p free)
 
 pub record LinesOk (v : View) (n : ℕ) (ls : List Line) : Type 0 where
-  pub each : All (LineOk v) ls
+  pub each : AllByRecursion (LineOk v) ls
   pub asked : (a : ℕ) → 1 ≤ sum_by (awaits a) ls → 1 ≤ v.pending n a
 
 pub record BoardInv (v : View) (n : ℕ) (h : List Event) (t : Tables) : Type 0 where
   pub places : PlacesOk v n h t.places
-  pub commands : All (CommandOk v) t.commands
+  pub commands : AllByRecursion (CommandOk v) t.commands
   pub lines : LinesOk v n t.lines
 
 -- each draw answered a word that was given before
@@ -134,7 +134,7 @@ pub record InvAt (h : List Event) (m : Moment) (bag : List Plain) : Type 0 where
   pub facts : (n : ℕ) → Facts (board_at m n)
   pub boards : (n : ℕ) → BoardInv (view h m bag) n h (board_at m n)
   pub memory : (a : ℕ) → CellOk (view h m bag) a (cell_at m a)
-  pub in_bag : All (MessageOk (view h m bag)) bag
+  pub in_bag : AllByRecursion (MessageOk (view h m bag)) bag
   pub fits : length bag + sum_by waiters m.memory ≤ m.limit
   pub reports : (a : ℕ) → 1 ≤ reported a h → 1 ≤ (view h m bag).written a
   pub writes : (a : ℕ) → writes_accepted a h ≡ sum_to m.nodes (λ n. sum_by (is_writing a) (board_at m n).commands) + sum_by (is_write_to a) bag + stored (cell_at m a) + reported a h

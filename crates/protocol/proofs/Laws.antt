@@ -1,6 +1,6 @@
 -- The laws, from what every run keeps.
 use Rattle.std.proofs.Common.{◌≡◌, ℕ, suc, ◌+◌, ◌*◌, ◌/◌, ◌<◌, ◌≤◌, eqb, List, [], ◌∷◌, ◌++◌, length, get_or, Some, sum_by, sym, refl, ap, ◌∙◌, subst, inl, inr, arith}
-use Rattle.std.specs.List.{slice_get, AllByRecursion as All}
+use Rattle.std.specs.List.{slice_get, AllByRecursion}
 use Rattle.std.proofs.ByRecursion.{All-weaker}
 use Rattle.std.proofs.lemmas.List.Sums.{sum_by-cons, get_or-le-sum_by}
 use Rattle.std.proofs.lemmas.Bool.{cond_both, cases_eq}
@@ -88,11 +88,11 @@ undrawn_event h q n (delivered k c) z ok = tt
 undrawn_event h q n (created kind size base) z ok = tt
 undrawn_event h q n (refused c why) z ok = tt
 
-undrawn : (h : List Event) (q : Read) (n : ℕ) → writes_accepted q.address h ≡ 0 → Sound h → All (Undrawn q) (deeds n h)
+undrawn : (h : List Event) (q : Read) (n : ℕ) → writes_accepted q.address h ≡ 0 → Sound h → AllByRecursion (Undrawn q) (deeds n h)
 undrawn [] q n z s = tt
 undrawn (e ∷ h) q n z s = let was : writes_accepted q.address h ≡ 0 = omega (arith, accepted_more (is_write q.address) e h) in (undrawn_event h q n e was s.0, undrawn h q n was s.1)
 
-latest_none : (q : Read) (p : ℕ) (ds : List Deed) → All (Undrawn q) ds → latest (by_read q) p ds ≡ 0
+latest_none : (q : Read) (p : ℕ) (ds : List Deed) → AllByRecursion (Undrawn q) ds → latest (by_read q) p ds ≡ 0
 latest_none q p [] u = refl
 latest_none q p (nothing ∷ ds) u = latest_none q p ds u.1
 latest_none q p (accepted r k ∷ ds) u = latest_none q p ds u.1
@@ -102,7 +102,7 @@ latest_none q p (drew k r w ∷ ds) u = cond_both (eqb p k) (same_read q r) (lat
 latest_none q p (finished k ∷ ds) u = latest_none q p ds u.1
 latest_none q p (returned k ∷ ds) u = latest_none q p ds u.1
 
-finished_none : (q : Read) (ds : List Deed) → All (Undrawn q) ds → finished_by (by_read q) ds ≡ 0
+finished_none : (q : Read) (ds : List Deed) → AllByRecursion (Undrawn q) ds → finished_by (by_read q) ds ≡ 0
 finished_none q [] u = refl
 finished_none q (nothing ∷ ds) u = finished_none q ds u.1
 finished_none q (accepted r k ∷ ds) u = finished_none q ds u.1

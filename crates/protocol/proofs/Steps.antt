@@ -2,7 +2,7 @@
 use Rattle.std.proofs.Common.{◌≡◌, ℕ, zero, suc, ◌+◌, ◌<◌, ◌≤◌, List, [], ◌∷◌, length, get_or, replicate, sum_by, Option, sym, refl, ap, ◌∙◌, subst, inl, inr, arith, lit≤}
 use lib.ListN.{length-replicate}
 use Rattle.std.specs.Option.{option_to_list}
-use Rattle.std.specs.List.{AllByRecursion as All}
+use Rattle.std.specs.List.{AllByRecursion}
 use Rattle.std.proofs.ByRecursion.{All-weaker}
 use Rattle.std.proofs.lemmas.List.{length-set}
 use Rattle.std.proofs.lemmas.List.Sums.{sum_by-cons}
@@ -13,9 +13,9 @@ use Rattle.lines.specs.Model.{Read, Place, free, empty, Tables}
 use Rattle.lines.specs.Model as board
 use Rattle.lines.specs.Facts.{Facts}
 use Rattle.lines.proofs.Keeps.{start_facts}
-use Rattle.protocol.specs.Moments.{Moment, unused, board_at, place_at, cell_at, waiters, with_board, with_end, with_bag, Event, started}
+use Rattle.protocol.specs.Moments.{Moment, unused, board_at, cell_at, waiters, with_board, with_end, with_bag, Event, started}
 use Rattle.protocol.specs.Steps.{fresh}
-use Rattle.protocol.specs.Counts.{sum_to, from_event, is_write, is_write_of, reads_accepted, writes_accepted, given, deeds, reads_finished, is_writing, is_write_to, stored, told_twice, reported}
+use Rattle.protocol.specs.Counts.{sum_to, from_event, is_write, is_write_of, reads_accepted, writes_accepted, deeds, reads_finished, is_writing, is_write_to, stored, told_twice, reported}
 use Rattle.protocol.proofs.Count.{sum_to_zero, sum_to_none, sum_to_set, each_set}
 use Rattle.protocol.proofs.Moves.{Moved, moved_sum, moved_length, taken_all, next_all}
 use Rattle.protocol.proofs.Inv.{in_place, awaits, asks, View, PlaceOk, CommandOk, LineOk, CellOk, MessageOk, BoardInv, EventOk, Sound, view, InvAt, Up, command_up, cell_up, message_up, accepted_more, given_up}
@@ -88,7 +88,7 @@ none_awaited : (a l : ℕ) → sum_by (awaits a) (replicate l empty) ≡ 0
 none_awaited a zero = refl
 none_awaited a (suc l) = omega (arith, sum_by-cons (awaits a) empty (replicate l empty), none_awaited a l)
 
-empty_ok : (v : View) (l : ℕ) → All (LineOk v) (replicate l empty)
+empty_ok : (v : View) (l : ℕ) → AllByRecursion (LineOk v) (replicate l empty)
 empty_ok v zero = tt
 empty_ok v (suc l) = (tt, empty_ok v l)
 
@@ -155,7 +155,7 @@ pub record Next (v v' : View) (n : ℕ) (e : Event) (taken added : List Plain) :
 pub record OnBoard (h : List Event) (m : Moment) (bag : List Plain) (n : ℕ) (e : Event) (t : Tables) (taken added : List Plain) : Type 0 where
   pub facts : Facts t
   pub board : (v : View) → Next (view h m bag) v n e taken added → BoardInv v n (e ∷ h) t
-  pub sends : (v : View) → Up (view h m bag) v → All (MessageOk v) added
+  pub sends : (v : View) → Up (view h m bag) v → AllByRecursion (MessageOk v) added
   pub others : (k : ℕ) → (k ≡ n → ⊥) → Mute k h e
   pub apart : (k : ℕ) → (k ≡ n → ⊥) → (a : ℕ) → sum_by (asks k a) taken ≡ 0
   pub unwritten : (a : ℕ) → sum_by (is_write_to a) taken ≡ 0

@@ -1,12 +1,12 @@
 -- The words of the laws: counts over a history and over a moment.
-use Rattle.std.specs.Prelude.{ℕ, zero, suc, ◌+◌, ◌*◌, Bool, cond, List, [], ◌∷◌, ◌++◌, Some, None, sum_by, Option, ◌==◌}
+use Rattle.std.specs.Prelude.{ℕ, zero, suc, ◌+◌, ◌*◌, cond, List, [], ◌∷◌, ◌++◌, Some, None, sum_by, Option, ◌==◌}
 use Rattle.network.specs.declared.message.Kind.{Kind}
 use Rattle.network.specs.declared.message.Kind.TheVariants as kind
 use Rattle.network.specs.Messages.{Plain}
 use Rattle.home.specs.declared.cell.Cell.{Cell}
 use Rattle.home.specs.declared.cell.Cell.TheVariants.{Undefined, Waiting, Defined}
 use Rattle.lines.specs.Model.{Read, Place, free, held, deferred, ready, drawn, Command, reading, writing}
-use Rattle.protocol.specs.Moments.{Moment, place_at, Refusal, Deed, nothing, accepted, wrote, acted, drew, finished, returned, Event, at, started, delivered, created, refused}
+use Rattle.protocol.specs.Moments.{Moment, place_at, Deed, nothing, accepted, wrote, acted, drew, finished, returned, Event, at, started, delivered, created, refused}
 
 -- 1 if two numbers are the same, else 0
 unfoldable pub same : ℕ → ℕ → ℕ

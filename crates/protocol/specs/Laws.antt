@@ -1,6 +1,6 @@
 -- The laws of every run, over its history (newest call first) and the moment reached.
 use Rattle.std.specs.Prelude.{◌≡◌, ℕ, ◌+◌, ◌*◌, ◌/◌, ◌<◌, ◌≤◌, List, [], ◌∷◌, ◌++◌, sum_by}
-use Rattle.std.specs.List.{AllByRecursion as All}
+use Rattle.std.specs.List.{AllByRecursion}
 use Rattle.network.specs.declared.message.Kind.{Kind}
 use Rattle.network.specs.declared.message.Kind.TheVariants as kind
 use Rattle.network.specs.Messages.{Plain}
@@ -44,7 +44,7 @@ Goes m kind.Reply x = x.to < m.nodes
 
 -- each message in transit names an address of the memory, and goes where it should
 abbrev pub Homes : Moment → Type 0
-Homes m = All (λ x. (x.address < m.nodes * m.cells) × Goes m x.kind x) (transit m)
+Homes m = AllByRecursion (λ x. (x.address < m.nodes * m.cells) × Goes m x.kind x) (transit m)
 
 pub record Laws (h : List Event) (m : Moment) : Type 0 where
   pub reads : ReadsBalance h m

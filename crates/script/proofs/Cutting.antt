@@ -2,7 +2,7 @@
 use Rattle.std.proofs.Common.{◌≡◌, ℕ, eqb, List, [], ◌∷◌, ◌++◌, map, sym, refl, ap, ◌∙◌, ⊎_elim, append_assoc}
 use Rattle.std.proofs.lemmas.List.{append-nil}
 use Rattle.std.proofs.lemmas.Bool.{cond-false, ne_eqb, cases_eq}
-use Rattle.std.specs.List.{AllByRecursion as All}
+use Rattle.std.specs.List.{AllByRecursion}
 use Rattle.script.specs.Inputs.{InputLine, line_of, last_of, lines_from, lines_of, joined, NoFeed, Cut, CutAtFeeds}
 use Rattle.script.specs.Texts.{ended}
 
@@ -19,7 +19,7 @@ one_line l more h = ap lines_of (append_assoc l (10 ∷ []) more) ∙ held_on []
 rest_line : (rest : List ℕ) → NoFeed rest → lines_of rest ≡ last_of rest
 rest_line rest h = ap lines_of (sym (append-nil rest)) ∙ held_on [] rest [] h
 
-lines_of_lem : (ls : List (List ℕ)) (rest : List ℕ) → All NoFeed ls → NoFeed rest → lines_of (joined ls ++ rest) ≡ map line_of ls ++ last_of rest
+lines_of_lem : (ls : List (List ℕ)) (rest : List ℕ) → AllByRecursion NoFeed ls → NoFeed rest → lines_of (joined ls ++ rest) ≡ map line_of ls ++ last_of rest
 lines_of_lem [] rest h r = rest_line rest r
 lines_of_lem (l ∷ ls) rest h r =
     ap lines_of (append_assoc (ended l) (joined ls) rest)

@@ -1,6 +1,6 @@
 -- A whole input as lines.
 use Rattle.std.specs.Prelude.{◌≡◌, ℕ, cond, List, [], ◌∷◌, ◌++◌, map, length, ◌==◌, ◌≢◌, nat_le}
-use Rattle.std.specs.List.{AllByRecursion as All}
+use Rattle.std.specs.List.{AllByRecursion}
 use Rattle.script.specs.declared.call.Call.{Call}
 use Rattle.script.specs.Calls.{Writes}
 use Rattle.script.specs.Texts.{ended}
@@ -34,12 +34,12 @@ joined [] = []
 joined (l ∷ ls) = ended l ++ joined ls
 
 abbrev pub NoFeed : List ℕ → Type 0
-NoFeed bs = All (λ b. b ≢ 10) bs
+NoFeed bs = AllByRecursion (λ b. b ≢ 10) bs
 
 -- the input is these lines, each with its line feed, and then the rest, which has none
 pub record Cut (input : List ℕ) (ls : List (List ℕ)) (rest : List ℕ) : Type 0 where
   pub is : input ≡ joined ls ++ rest
-  pub whole : All NoFeed ls
+  pub whole : AllByRecursion NoFeed ls
   pub last : NoFeed rest
 
 -- every input is so cut, and its lines are those of the cut
