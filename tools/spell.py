@@ -1,12 +1,15 @@
 #!/usr/bin/env python3
-"""Spells this repository's own names as its Rattle does. Run once, at the top, after the kit's own script.
+"""usage: python3 tools/spell.py [--write]
+
+Spells this repository's own names as its Rattle does. Run once, at the top, after the kit's own script.
 
 Types and facts are in upper camel case (Law-of-runs becomes LawOfRuns), all other words in snake case (answerText and
 pool-says become answer_text and pool_says). A dash stays where it joins the name of a list function to what it is
 applied to, as in length-step. Names that Rattle makes, names of the library and Rust's own names are left alone. The
 crate arrayvec is called bounded, since the library has a crate of that name.
 
-It prints each name it turns, and names that fall together: then it writes nothing.
+It prints each name that it turns, and on standard error those whose new spelling a file has already: look whether the
+two are one thing there, as a word of specs/ and a function of src/ may be. Only with --write does it turn the files.
 """
 import collections
 import os
