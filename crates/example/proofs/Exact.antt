@@ -1,8 +1,9 @@
 -- Over the pool, what a call answers and leaves is computed.
-use Rattle.std.proofs.Common.{◌≡◌, ℕ, zero, suc, ◌%◌, Bool, true, false, cond, ltb, List, [], ◌∷◌, ◌++◌, map, length, take, drop, MatchBool, Option, sym, refl, ap, ◌∙◌}
+use Rattle.std.proofs.Common.{◌≡◌, ℕ, suc, ◌%◌, Bool, true, false, cond, ltb, List, [], ◌∷◌, ◌++◌, map, length, take, drop, MatchBool, Option, sym, ap, ◌∙◌}
 use Rattle.std.specs.List.{slice_get, remove}
 use Rattle.std.specs.Option.{option_map}
 use Rattle.std.proofs.lemmas.List.{length-map, map-append, map_push, take-map, drop-map}
+use Rattle.std.proofs.lemmas.Option.{slice_get-map}
 use Rattle.bounded.specs.Listed.{listed}
 use Rattle.network.specs.contracts.pool.PoolNetwork.TheImpl.{ghosts as over_pool}
 use Rattle.network.specs.declared.message.Message.{Message}
@@ -20,14 +21,8 @@ use Rattle.example.specs.Exact.{ExactOverPool}
 abbrev held : Pool → List Plain
 held n = map plain (listed n.held)
 
-module _ {X Y : Type 0} (f : X → Y) where
-  nth-map : (xs : List X) (i : ℕ) → option_map f (slice_get xs i) ≡ slice_get (map f xs) i
-  nth-map [] i = refl
-  nth-map (x ∷ xs) zero = refl
-  nth-map (x ∷ xs) (suc i) = nth-map xs i
-
-  removed-map : (xs : List X) (i : ℕ) → map f (remove xs i) ≡ remove (map f xs) i
-  removed-map xs i = map-append f (take i xs) (drop (suc i) xs) ∙ (λ k. sym (take-map f i xs) k ++ sym (drop-map f (suc i) xs) k)
+removed-map : {X Y : Type 0} (f : X → Y) (xs : List X) (i : ℕ) → map f (remove xs i) ≡ remove (map f xs) i
+removed-map f xs i = map-append f (take i xs) (drop (suc i) xs) ∙ (λ k. sym (take-map f i xs) k ++ sym (drop-map f (suc i) xs) k)
 
 -- what comes out, and what is left
 abbrev HandedAs : Option Message → Pool → Handed → Type 0
@@ -39,7 +34,7 @@ left_as n got rest h = (ap (option_map plain) h.0, ap held h.1)
 picked_as : (n : Pool) (k : ℕ) (got : Option Message) (rest : Pool) → PoolTakes (listed n.held) k got (listed rest.held) → HandedAs got rest (picked (held n) k)
 picked_as n k got rest h =
     let at = ap (λ l. k % l) (sym (length-map (listed n.held) plain)) in (
-      ap (option_map plain) h.0 ∙ nth-map plain (listed n.held) (k % length (listed n.held)) ∙ ap (slice_get (held n)) at,
+      ap (option_map plain) h.0 ∙ sym (slice_get-map plain (listed n.held) (k % length (listed n.held))) ∙ ap (slice_get (held n)) at,
       ap (map plain) h.1 ∙ removed-map plain (listed n.held) (k % length (listed n.held)) ∙ ap (remove (held n)) at,
     )
 

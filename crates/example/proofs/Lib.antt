@@ -1,4 +1,3 @@
-pub mod Pools
 pub mod Memory
 pub mod Exact
 pub mod Lines

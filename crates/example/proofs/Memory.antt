@@ -6,7 +6,7 @@ use Rattle.home.specs.Sets.{members, members_from}
 use Rattle.protocol.specs.Moments.{board_at}
 use Rattle.protocol.specs.Counts.{same, same_read, sum_to}
 use Rattle.example.specs.Memory.{answered, example, unwritten, after, PortalRun}
-use Rattle.example.proofs.Pools.{pool_run}
+use Rattle.protocol.proofs.EdgeCases.{edges}
 
 of_two : (P : ℕ → Type 0) → P 0 → P 1 → (n : ℕ) → n < 2 → P n
 of_two P zeroth first = below_more P 1 (below_more P 0 (below_none P) zeroth) first
@@ -15,7 +15,7 @@ pub portal_run : PortalRun
 unfolding first_of ones members members_from same same_read sum_to
 portal_run = record {
   answers = refl;
-  reached = pool_run 64 example;
+  reached = edges.runs 64 example;
   at_work = refl;
   read_held = refl;
   read_deferred = refl;

@@ -1,7 +1,6 @@
 // The portal's example, as a proved run of a session.
 #![tactic(auto)]
 
-ghost use Rattle.example.specs.Pools.{PoolRuns};
 ghost use Rattle.example.specs.Memory.{PortalRun};
 ghost use Rattle.example.specs.Exact.{ExactOverPool};
 ghost use Rattle.example.specs.Runs.{ExampleSession};
@@ -32,13 +31,6 @@ const LINES: [&[u8]; 15] = [
 pub struct Example {
     pub session: Session<Pool>,
     pub answers: [Answer; 15],
-}
-
-// Over a pool, what is computed of calls is what they do.
-pub fn pool_runs() -> u8
-    ensures { PoolRuns }
-{
-    0
 }
 
 // The law is not empty: each thing that it counts, and each thing that it supposes, is there in this run.
