@@ -1,4 +1,4 @@
-// Arrays of elements over a system: one text for every kind and every network.
+// Arrays of elements over a system: one text for every kind and every network. Array and index stand apart, as in `a[i]`.
 ghost use Rattle.std.specs.Prelude.{◌≡◌, IfErr};
 ghost use Rattle.protocol.specs.Moments.{read, write, create, at, accepted, wrote, created};
 ghost use Rattle.system.specs.Through.{Called};
@@ -9,24 +9,16 @@ ghost use Rattle.array.specs.References.{plain};
 
 use crate::element::Element;
 use crate::fault::ArrayFault;
-use crate::kind::KindNumber;
 use crate::reference::ArrayRef;
-use lines::Answer;
+use lines::{Answer, Continuation};
 use network::Network;
 use system::System;
 
-// The number of a kind.
-fn kind_of<E: Element>() -> u8
-    ensures { result ≡ E.Element.numbered }
-{
-    E::KIND.number()
-}
-
 // The address of an element, if the array is of its kind and has its index.
 fn address_of<E: Element>(array: ArrayRef, index: u64) -> Result<u64, ArrayFault>
-    ensures { result ≡ address_of E.Element.numbered (plain array) index }
+    ensures { result ≡ address_of E.Element.NUMBER (plain array) index }
 {
-    if array.kind() != kind_of::<E>() {
+    if array.kind() != E::NUMBER {
         return Err(ArrayFault::OtherKind);
     }
     if index >= u64::from(array.length()) {
@@ -40,9 +32,9 @@ pub fn create<E: Element, N: Network>(
     system: &mut System<N>,
     length: u64,
 ) -> Result<ArrayRef, ArrayFault>
-    ensures { Called N.Network system.old (create E.Element.numbered length) (answered (create E.Element.numbered length) (λ a. created a.kind a.length a.base) result) system.new }
+    ensures { Called N.Network system.old (create E.Element.NUMBER length) (answered (create E.Element.NUMBER length) (λ a. created a.kind a.length a.base) result) system.new }
 {
-    let kind = u64::from(kind_of::<E>());
+    let kind = u64::from(E::NUMBER);
     let base = system.create(kind, length)?;
     Ok(ArrayRef::new(kind, base as u64, length).unwrap())
 }
@@ -53,13 +45,12 @@ pub fn read_element<E: Element, N: Network>(
     node: u64,
     array: ArrayRef,
     index: u64,
-    frame: u32,
-    instruction: u32,
+    continuation: Continuation,
 ) -> Result<usize, ArrayFault>
-    ensures { CalledAt N.Network system.old (address_of E.Element.numbered (plain array) index) (λ a. read node (reading frame instruction a)) (λ a place. at node (accepted (reading frame instruction a) place)) result system.new }
+    ensures { CalledAt N.Network system.old (address_of E.Element.NUMBER (plain array) index) (λ a. read node (reading continuation.frame continuation.instruction a)) (λ a place. at node (accepted (reading continuation.frame continuation.instruction a) place)) result system.new }
 {
     let address = address_of::<E>(array, index)?;
-    Ok(system.read(node, address, frame, instruction)?)
+    Ok(system.read(node, address, continuation)?)
 }
 
 // Gives at a node an element to an array.
@@ -70,7 +61,7 @@ pub fn write_element<E: Element, N: Network>(
     index: u64,
     element: E,
 ) -> Result<(), ArrayFault>
-    ensures { CalledAt N.Network system.old (address_of E.Element.numbered (plain array) index) (λ a. write node a (E.Element.packed element)) (λ a _. at node (wrote a (E.Element.packed element))) result system.new }
+    ensures { CalledAt N.Network system.old (address_of E.Element.NUMBER (plain array) index) (λ a. write node a (E.Element.packed element)) (λ a _. at node (wrote a (E.Element.packed element))) result system.new }
 {
     let address = address_of::<E>(array, index)?;
     system.write(node, address, element.pack())?;

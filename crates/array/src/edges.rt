@@ -1,4 +1,4 @@
-ghost use Rattle.std.specs.Prelude.{◌≡◌, Some};
+ghost use Rattle.std.specs.Prelude.{◌≡◌};
 ghost use Rattle.array.specs.Edges.{Edges};
 
 use crate::element::{Element, NotAnElement};
@@ -15,29 +15,17 @@ pub struct EdgeWords {
     pub not_an_array: Result<ArrayRef, NotAnElement>,
 }
 
-// The word of the array of kind 1 with base 4 and length 3.
-fn array_word() -> Option<u64>
-    ensures { result ≡ Some 4295229443 }
-{
-    match ArrayRef::new(1, 4, 3) {
-        Some(array) => Some(array.pack()),
-        None => None,
-    }
-}
-
 // The proved cases, all in one list; those of words are run.
 pub fn words_at_the_edges() -> EdgeWords
     ensures { Edges result }
 {
-    let minus_one: i64 = -1;
-    let one: f32 = 1.0;
-    let not_a_number: f32 = 0.0 / 0.0;
     EdgeWords {
-        minus_one: minus_one.pack(),
-        one: one.pack(),
-        not_a_number: not_a_number.pack(),
+        minus_one: (-1i64).pack(),
+        one: 1.0f32.pack(),
+        not_a_number: (0.0f32 / 0.0).pack(),
         other_not_a_number: f32::open(0x7FC0_0001),
-        array: array_word(),
+        // Kind 1, base 4 and length 3.
+        array: ArrayRef::new(1, 4, 3).map(|array| array.pack()),
         not_an_array: ArrayRef::open(65537),
     }
 }

@@ -4,21 +4,16 @@ ghost use Rattle.array.specs.Numbers.{signed};
 ghost use Rattle.std.proofs.Common.{rules};
 
 use crate::element::{Element, NotAnElement};
-use crate::kind::Kind;
 
 // A signed number of 64 bits: every word is one.
 impl Element for i64 {
-    type Kind = Kind<1>;
+    const NUMBER: u8 = 1;
 
-    const KIND: Self::Kind = Kind;
-
-    ghost numbered = { 1 };
+    ghost NUMBER = { 1 };
 
     ghost valid = { λ n. FitsSigned w64 n };
 
     ghost packed = { signed };
-
-    ghost tied = { Prim.search rules };
 
     ghost least = { Prim.search rules };
 

@@ -3,6 +3,7 @@ ghost use Rattle.std.specs.Prelude.{◌+◌, ◌≤◌};
 mod methods;
 
 // An array within the 1,024 cells: the kind of its elements, the address of the first, and how many there are.
+// A kind is a number and no enum, since each element type brings its own.
 #[derive(Clone, Copy)]
 pub struct ArrayRef {
     kind: u8,

@@ -1,168 +1,156 @@
 // One board alone: its tables after each step.
 #![tactic(auto)]
 
-use anyhow::anyhow;
-use lines::{Board, Continuation, Outgoing, Place, Read};
+use anyhow::Context;
+use lines::{Acted, Answer, Board, Continuation, Outgoing, Place, Read, Traffic};
 use network::{Address, Node};
 
 // What the network holds and can hold, as far as this board is told.
-const LOAD: usize = 0;
+const TRAFFIC: Traffic = Traffic { load: 0, limit: 64 };
 
-const LIMIT: usize = 64;
-
-fn show_commands(rt: &HostRuntime, board: &Board) -> anyhow::Result<()> {
-    print!(rt; "    commands:")?;
-    for command in board.commands() {
-        print!(rt; " {command};")?;
-    }
-    println!(rt; "")?;
-    Ok(())
+// A board, and where its tables are shown.
+#[derive(Drop)]
+struct Shown<'a> {
+    rt: &'a HostRuntime,
+    board: Board,
 }
 
-// The places that are not free.
-fn show_places(rt: &HostRuntime, board: &Board) -> anyhow::Result<()> {
-    print!(rt; "    places:")?;
-    for (number, place) in board.places().iter().enumerate() {
-        if let Place::Free = place {
-            continue;
+impl Shown<'_> {
+    fn show_commands(&self) -> anyhow::Result<()> {
+        print!(self.rt; "    commands:")?;
+        for command in self.board.commands() {
+            print!(self.rt; " {command};")?;
         }
-        print!(rt; " {number} {place};")?;
+        println!(self.rt; "")?;
+        Ok(())
     }
-    println!(rt; "")?;
-    Ok(())
-}
 
-fn show_lines(rt: &HostRuntime, board: &Board) -> anyhow::Result<()> {
-    let hand = board.hand();
-    print!(rt; "    hand {hand}, lines:")?;
-    for line in board.lines() {
-        print!(rt; " {line};")?;
+    // The places that are not free.
+    fn show_places(&self) -> anyhow::Result<()> {
+        print!(self.rt; "    places:")?;
+        for (number, place) in self.board.places().iter().enumerate() {
+            if !matches!(place, Place::Free) {
+                print!(self.rt; " {number} {place};")?;
+            }
+        }
+        println!(self.rt; "")?;
+        Ok(())
     }
-    println!(rt; "")?;
-    Ok(())
-}
 
-fn show_order(rt: &HostRuntime, board: &Board) -> anyhow::Result<()> {
-    print!(rt; "    ready, longest first:")?;
-    for place in board.order() {
-        print!(rt; " {place}")?;
+    fn show_lines(&self) -> anyhow::Result<()> {
+        print!(self.rt; "    hand {}, lines:", self.board.hand())?;
+        for line in self.board.lines() {
+            print!(self.rt; " {line};")?;
+        }
+        println!(self.rt; "")?;
+        Ok(())
     }
-    println!(rt; "")?;
-    Ok(())
-}
 
-fn show(rt: &HostRuntime, board: &Board) -> anyhow::Result<()> {
-    show_commands(rt, board)?;
-    show_places(rt, board)?;
-    show_lines(rt, board)?;
-    show_order(rt, board)
-}
-
-fn read(
-    rt: &HostRuntime,
-    board: &mut Board,
-    address: Address,
-    instruction: u32,
-) -> anyhow::Result<()> {
-    let continuation = Continuation {
-        frame: 7,
-        instruction,
-    };
-    match board.read(Read {
-        address,
-        continuation,
-    }) {
-        Ok(place) => println!(rt; "  read: place {place}")?,
-        Err(_) => println!(rt; "  read: all places are taken")?,
+    fn show_order(&self) -> anyhow::Result<()> {
+        print!(self.rt; "    ready, longest first:")?;
+        for place in self.board.order() {
+            print!(self.rt; " {place}")?;
+        }
+        println!(self.rt; "")?;
+        Ok(())
     }
-    show(rt, board)
-}
 
-fn write(rt: &HostRuntime, board: &mut Board, address: Address, word: u64) -> anyhow::Result<()> {
-    match board.write(address, word) {
-        Ok(()) => println!(rt; "  write: held")?,
-        Err(_) => println!(rt; "  write: no more writes can be held")?,
+    fn show(&self) -> anyhow::Result<()> {
+        self.show_commands()?;
+        self.show_places()?;
+        self.show_lines()?;
+        self.show_order()
     }
-    show(rt, board)
+
+    fn read(&mut self, address: Address, instruction: u32) -> anyhow::Result<()> {
+        let continuation = Continuation {
+            frame: 7,
+            instruction,
+        };
+        let read = Read {
+            address,
+            continuation,
+        };
+        match self.board.read(read) {
+            Ok(place) => println!(self.rt; "  read: place {place}")?,
+            Err(_) => println!(self.rt; "  read: all places are taken")?,
+        }
+        self.show()
+    }
+
+    fn write(&mut self, address: Address, word: u64) -> anyhow::Result<()> {
+        match self.board.write(address, word) {
+            Ok(()) => println!(self.rt; "  write: held")?,
+            Err(_) => println!(self.rt; "  write: no more writes can be held")?,
+        }
+        self.show()
+    }
+
+    // Acts on the oldest command, as node 0.
+    fn act(&mut self) -> anyhow::Result<()> {
+        let node = Node::new(0).context("no such node")?;
+        match self.board.act(node, 0, TRAFFIC) {
+            Ok(Acted { readied, sends }) => {
+                println!(self.rt; "  act: {readied} made ready, {}", sent(sends))?;
+            }
+            Err(_) => println!(self.rt; "  act: refused")?,
+        }
+        self.show()
+    }
+
+    // Answers the place drawn.
+    fn draw(&mut self) -> anyhow::Result<usize> {
+        let Answer { place, read, word } = self.board.draw().context("nothing is ready")?;
+        let instruction = read.continuation.instruction;
+        println!(self.rt; "  draw: place {place}, word {word}, instruction {instruction}")?;
+        self.show()?;
+        Ok(place)
+    }
+
+    fn finish(&mut self, place: usize) -> anyhow::Result<()> {
+        match self.board.finish(place) {
+            Ok(()) => println!(self.rt; "  finish: place {place} is free")?,
+            Err(_) => println!(self.rt; "  finish: place {place} is not drawn")?,
+        }
+        self.show()
+    }
+
+    fn put_back(&mut self, place: usize) -> anyhow::Result<()> {
+        match self.board.put_back(place) {
+            Ok(()) => println!(self.rt; "  put back: place {place}")?,
+            Err(_) => println!(self.rt; "  put back: place {place} is not drawn")?,
+        }
+        self.show()
+    }
 }
 
 fn sent(outgoing: Option<Outgoing>) -> &'static str {
-    let Some(outgoing) = outgoing else {
-        return "nothing goes out";
-    };
     match outgoing {
-        Outgoing::Read(_) => "a READ goes out",
-        Outgoing::Write(_, _) => "a WRITE goes out",
+        None => "nothing goes out",
+        Some(Outgoing::Read(_)) => "a READ goes out",
+        Some(Outgoing::Write(_, _)) => "a WRITE goes out",
     }
-}
-
-// Acts on the oldest command, as node 0.
-fn act(rt: &HostRuntime, board: &mut Board) -> anyhow::Result<()> {
-    let Some(node) = Node::new(0) else {
-        return Err(anyhow!("no such node"));
-    };
-    match board.act(node, 0, LOAD, LIMIT) {
-        Ok(done) => {
-            let readied = done.readied;
-            let sent = sent(done.sends);
-            println!(rt; "  act: {readied} made ready, {sent}")?;
-        }
-        Err(_) => println!(rt; "  act: refused")?,
-    }
-    show(rt, board)
-}
-
-// Answers the place drawn.
-fn draw(rt: &HostRuntime, board: &mut Board) -> anyhow::Result<usize> {
-    let Some(answer) = board.draw() else {
-        return Err(anyhow!("nothing is ready"));
-    };
-    let place = answer.place;
-    let word = answer.word;
-    let instruction = answer.read.continuation.instruction;
-    println!(rt; "  draw: place {place}, word {word}, instruction {instruction}")?;
-    show(rt, board)?;
-    Ok(place)
-}
-
-fn finish(rt: &HostRuntime, board: &mut Board, place: usize) -> anyhow::Result<()> {
-    match board.finish(place) {
-        Ok(()) => println!(rt; "  finish: place {place} is free")?,
-        Err(_) => println!(rt; "  finish: place {place} is not drawn")?,
-    }
-    show(rt, board)
-}
-
-fn put_back(rt: &HostRuntime, board: &mut Board, place: usize) -> anyhow::Result<()> {
-    match board.put_back(place) {
-        Ok(()) => println!(rt; "  put back: place {place}")?,
-        Err(_) => println!(rt; "  put back: place {place} is not drawn")?,
-    }
-    show(rt, board)
 }
 
 // Two reads before the word comes, the write, and what is drawn then: put back once, drawn again, finished.
 fn run(rt: &HostRuntime) -> anyhow::Result<()> {
     println!(rt; "One board with two lines:")?;
-    let Some(mut board) = Board::new(2) else {
-        return Err(anyhow!("no such board"));
-    };
-    let Some(slice) = Address::new(4) else {
-        return Err(anyhow!("no such address"));
-    };
-    read(rt, &mut board, slice, 1)?;
-    read(rt, &mut board, slice, 2)?;
-    act(rt, &mut board)?;
-    act(rt, &mut board)?;
-    write(rt, &mut board, slice, 40)?;
-    act(rt, &mut board)?;
-    let first = draw(rt, &mut board)?;
-    put_back(rt, &mut board, first)?;
-    let second = draw(rt, &mut board)?;
-    finish(rt, &mut board, second)?;
-    let again = draw(rt, &mut board)?;
-    finish(rt, &mut board, again)?;
-    finish(rt, &mut board, again)
+    let board = Board::new(2).context("no such board")?;
+    let slice = Address::new(4).context("no such address")?;
+    let mut shown = Shown { rt, board };
+    shown.read(slice, 1)?;
+    shown.read(slice, 2)?;
+    shown.act()?;
+    shown.act()?;
+    shown.write(slice, 40)?;
+    shown.act()?;
+    let first = shown.draw()?;
+    shown.put_back(first)?;
+    let second = shown.draw()?;
+    shown.finish(second)?;
+    let again = shown.draw()?;
+    shown.finish(again)?;
+    shown.finish(again)
 }
 
 fn main(rt: HostRuntime) -> anyhow::Result<()> {

@@ -6,7 +6,8 @@ use std::alloc::AllocError;
 #[derive(Clone, Copy, Debug)]
 pub struct Full;
 
-// A list of at most CAP values, oldest first. No memory is asked for.
+// A list of at most CAP values, oldest first. No memory is asked for: there is no heap.
+// It is Copy, as the boards that hold it are; the library's list of fixed room is not.
 pub struct ArrayVec<T, const CAP: usize> {
     items: [T; CAP],
     len: usize,
@@ -14,6 +15,7 @@ pub struct ArrayVec<T, const CAP: usize> {
     ghost whole: { length items ≡ CAP },
 }
 
+// By hand, since no derive writes a Clone for a generic struct with ghost fields.
 impl<T: Copy, const CAP: usize> Copy for ArrayVec<T, CAP> {}
 
 impl<T: Copy, const CAP: usize> Clone for ArrayVec<T, CAP> {

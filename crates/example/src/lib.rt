@@ -34,18 +34,14 @@ pub struct Example {
 }
 
 // The law is not empty: each thing that it counts, and each thing that it supposes, is there in this run.
-pub fn portal_run() -> u8
+pub fn portal_run()
     ensures { PortalRun }
-{
-    0
-}
+{}
 
 // Over the pool, what a call answers and leaves is computed.
-pub fn exact_over_pool() -> u8
+pub fn exact_over_pool()
     ensures { ExactOverPool }
-{
-    0
-}
+{}
 
 // The promises of sessions are not empty: this one was made, and kept them.
 pub fn run_example() -> Example
@@ -53,6 +49,7 @@ pub fn run_example() -> Example
 {
     let mut session = Session::new(Pool::new());
     let mut answers = [Answer::Done; 15];
+    // By number: a zip with `iter_mut` would lend the answers away while the law of the run speaks of them.
     for (i, text) in LINES.iter().enumerate() {
         answers[i] = session.line(Line::Text(*text));
     }

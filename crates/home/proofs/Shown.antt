@@ -17,10 +17,5 @@ module _ {W : Type 0} (took : W → List ℕ → W → Type 0) where
   pub none_left : (f : Formatter W) (all : List ℕ) → all ≡ [] → IsPlainFormatter f → HasWritten took f (each all) f
   none_left f all e p = has_written_of_eq took f _ _ f (ap each (sym e)) (put_none f p)
 
-  pub one_more : (f g h : Formatter W) (n i : ℕ) (ns all : List ℕ) → all ≡ n ∷ ns → i ≡ n → HasWritten took f (codes ", " ++ decimal i) g → HasWritten took g (each ns) h → HasWritten took f (each all) h
-  one_more f g h n i ns all e v p q =
-      has_written_of_eq took f _ _ h (ap each (sym e)) (has_written_append took f _ g _ h (has_written_of_eq took f _ _ g (ap (λ k. codes ", " ++ decimal k) v) p) q)
-
-  pub from_first : (f g h : Formatter W) (n i : ℕ) (ns all : List ℕ) → all ≡ n ∷ ns → i ≡ n → HasWritten took f (decimal i) g → HasWritten took g (each ns) h → HasWritten took f (with_commas all) h
-  from_first f g h n i ns all e v p q =
-      has_written_of_eq took f _ _ h (ap with_commas (sym e)) (has_written_append took f _ g _ h (has_written_of_eq took f _ _ g (ap decimal v) p) q)
+  pub from_first : (f g h : Formatter W) (n : ℕ) (ns all : List ℕ) → all ≡ n ∷ ns → HasWritten took f (decimal n) g → HasWritten took g (each ns) h → HasWritten took f (with_commas all) h
+  from_first f g h n ns all e p q = has_written_of_eq took f _ _ h (ap with_commas (sym e)) (has_written_append took f _ g _ h p q)

@@ -17,7 +17,7 @@ pub enum Cell {
 }
 
 // The refusal of a write to a cell that has its word: who wrote, and where.
-#[derive(Clone, Copy)]
+#[derive(Clone, Copy, PartialEq, Eq)]
 pub struct WrittenTwice {
     writer: Node,
     address: Address,
@@ -93,11 +93,10 @@ impl fmt::Display for WrittenTwice {
     ghost output = { λ fault. Some (shown_twice (twice fault)) };
 
     fn fmt<W: fmt::Write>(&self, f: &mut fmt::Formatter<W>) -> fmt::Result {
-        let writer = self.writer.index();
-        let address = self.address.index();
         write!(
             f,
-            "address {address} is written twice, now by node {writer}"
+            "address {} is written twice, now by node {}",
+            self.address, self.writer
         )
     }
 }

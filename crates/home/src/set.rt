@@ -45,6 +45,7 @@ impl NodeSet {
         }
     }
 
+    // The bound is said here and of the two lengths that stand on this one: a length is a plain number, no type of ours.
     pub fn len(self) -> usize
         ensures value { result ≡ count_ones self.mask }
         ensures law { result ≡ length (members self.mask) }
@@ -105,11 +106,9 @@ fn list<W: fmt::Write>(mut nodes: Members, f: &mut fmt::Formatter<W>) -> fmt::Re
     let Some(first) = nodes.next() else {
         return Ok(());
     };
-    let index = first.index();
-    write!(f, "{index}")?;
+    write!(f, "{first}")?;
     for node in nodes {
-        let index = node.index();
-        write!(f, ", {index}")?;
+        write!(f, ", {node}")?;
     }
     Ok(())
 }

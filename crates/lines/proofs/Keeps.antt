@@ -6,7 +6,7 @@ use Rattle.lines.specs.Model.{Read, Place, free, held, ready, drawn, empty, Comm
 use Rattle.lines.specs.Facts.{times, reads_at, listed_at, lines_for, if_held, if_deferred, if_ready, line_address, is_idle, Facts}
 use Rattle.lines.proofs.Counts.{get_d_set, times-append, reads_push, writes_push}
 use Rattle.lines.proofs.Marks.{unmoved, comes, goes, drawn_is}
-use Rattle.lines.proofs.Looks.{in_table, listed_mark, order_ready, free_is_free}
+use Rattle.lines.proofs.Looks.{drawn_within, listed_mark, order_ready, free_is_free}
 
 -- a new board
 all_same : {X : Type 0} (x : X) (n k : ℕ) → get_or (replicate n x) k x ≡ x
@@ -107,6 +107,9 @@ write_facts t a v e s =
       pointed = s.pointed;
     }
 
+pub maybe_written_facts : (t : Tables) (a v : ℕ) → Facts t → Facts (cond (may_write t) (written t a v) t)
+maybe_written_facts t a v s = cond_both (may_write t) (written t a v) t Facts (λ may. write_facts t a v may s) (λ full. s)
+
 -- a drawn place is freed, or ready again
 freed_facts : (t : Tables) (p : ℕ) → Facts t → p < 32 → place_at t p ≡ drawn (read_of (place_at t p)) (word_of (place_at t p)) → Facts (freeing t p)
 freed_facts t p s h e =
@@ -134,12 +137,6 @@ returned_facts t p s h e =
     let x = ready (read_of (place_at t p)) (word_of (place_at t p)) in
     readied t p (read_of (place_at t p)) (word_of (place_at t p)) t.commands s h (ap if_deferred e) (ap if_ready e)
     (λ k. s.held_once k ∙ sym (unmoved if_held t.places p k x (let a = s.all_places in omega arith) (sym (ap if_held e)))) s.few_writes
-
-abbrev if_drawn : Place → ℕ
-if_drawn x = cond (is_drawn x) 1 0
-
-drawn_within : (t : Tables) (p : ℕ) → Facts t → is_drawn (place_at t p) ≡ true → p < 32
-drawn_within t p s e = let o : if_drawn (place_at t p) ≡ 1 = ap (λ b. cond b 1 0) e in in_table t if_drawn p s refl (omega arith)
 
 pub finish_facts : (t : Tables) (p : ℕ) → Facts t → Facts (finished t p)
 finish_facts t p s =

@@ -10,6 +10,4 @@ pub mod Acts
 pub mod Mapped
 pub mod Commands
 pub mod Searches
-pub mod Waking
 pub mod Kept
-pub mod Shown

@@ -4,7 +4,7 @@ use borrow.Author.Tests.{clash}
 use Rattle.std.specs.List.{slice_get}
 use Rattle.rounds.specs.Rounds.{after, first_round, Searched}
 use Rattle.rounds.proofs.Rounds.{after_below, found_below, counts_round}
-use Rattle.lines.specs.Model.{Place, free, held, deferred, ready, Line, empty, waiting, filled, reading, Tables, place_at, line_at, read_of, word_of, waits, is_free, free_place, is_empty, is_filled, or_else, claimed}
+use Rattle.lines.specs.Model.{Place, free, held, deferred, ready, Line, empty, waiting, filled, reading, Tables, place_at, line_at, read_of, word_of, waits, is_free, free_place, is_empty, is_filled, or_else, claimed, is_drawn}
 use Rattle.lines.specs.Facts.{times, if_held, if_deferred, if_ready, Facts}
 use Rattle.lines.proofs.Counts.{names, reads_removed, times-here, listed_within}
 use Rattle.lines.proofs.Marks.{held_is, deferred_is, ready_is, free_is, marked_within}
@@ -36,6 +36,12 @@ listed_mark t i p s = let a = s.deferred_once p in let b = listed_within p t.lin
 
 pub listed_deferred : (t : Tables) (i p : ℕ) → Facts t → 1 ≤ times p (waits (line_at t i)) → (p < 32) × (place_at t p ≡ deferred (read_of (place_at t p)))
 listed_deferred t i p s h = let a = listed_mark t i p s in let m : 1 ≤ if_deferred (place_at t p) = omega arith in (in_table t if_deferred p s refl m, deferred_is (place_at t p) m)
+
+abbrev if_drawn : Place → ℕ
+if_drawn x = cond (is_drawn x) 1 0
+
+pub drawn_within : (t : Tables) (p : ℕ) → Facts t → is_drawn (place_at t p) ≡ true → p < 32
+drawn_within t p s e = let o : if_drawn (place_at t p) ≡ 1 = ap (λ b. cond b 1 0) e in in_table t if_drawn p s refl (omega arith)
 
 -- the place that a read gets is free
 pub free_is_free : (t : Tables) (p : ℕ) → Facts t → free_place t ≡ Some p → (p < 32) × (place_at t p ≡ free)

@@ -2,12 +2,12 @@
 use Rattle.std.proofs.Common.{◌≡◌, ℕ, ◌+◌, ◌<◌, ◌≤◌, Bool, true, false, cond, eqb, List, [], ◌∷◌, ◌++◌, length, get_or, Some, refl, ap, arith, length-append, ltb-true, eqb-true}
 use Rattle.std.specs.List.{slice_get}
 use Rattle.std.proofs.lemmas.List.{get_or_past}
-use Rattle.lines.specs.Model.{Place, free, Command, reading, writing, Tables, place_at, line_at, waits, writes, free_place, may_write}
+use Rattle.lines.specs.Model.{Place, free, Command, reading, writing, Tables, place_at, line_at, waits, writes, free_place, may_write, is_drawn}
 use Rattle.lines.specs.Facts.{times, reads_at, if_held, if_deferred, if_ready, Facts}
 use Rattle.lines.proofs.Counts.{times-append}
 use Rattle.lines.proofs.Pigeons.{pigeon}
-use Rattle.lines.proofs.Marks.{one_state}
-use Rattle.lines.proofs.Looks.{free_is_free, command_held, listed_mark}
+use Rattle.lines.proofs.Marks.{one_state, drawn_is}
+use Rattle.lines.proofs.Looks.{drawn_within, free_is_free, command_held, listed_mark}
 
 -- a list that names marked places, each once, is no longer than the table
 few : (f : Place → ℕ) (ps : List Place) (xs : List ℕ) → f free ≡ 0 → ((x : Place) → f x ≤ 1) → ((k : ℕ) → times k xs ≤ f (get_or ps k free)) → length xs ≤ length ps
@@ -61,9 +61,6 @@ read_marks t s k = let a = times-reads k t.commands in let b = s.held_once k in 
 reads_few : (t : Tables) → Facts t → length (reads t.commands) ≤ 32
 reads_few t s = let a = few if_held t.places (reads t.commands) refl one_held (read_marks t s) in let b = s.all_places in omega arith
 
-pub commands_few : (t : Tables) → Facts t → length t.commands ≤ 64
-commands_few t s = let a = reads_few t s in let b = length-commands t.commands in let c = s.few_writes in omega arith
-
 pub read_room : (t : Tables) (p : ℕ) → Facts t → free_place t ≡ Some p → length t.commands < 64
 read_room t p s e =
     let (h, w) = free_is_free t p s e in
@@ -83,17 +80,11 @@ write_room t s e =
 order_marks : (t : Tables) → Facts t → (k : ℕ) → times k t.order ≤ if_ready (place_at t k)
 order_marks t s k = let b = s.ready_once k in omega arith
 
-pub order_few : (t : Tables) → Facts t → length t.order ≤ 32
-order_few t s = let a = few if_ready t.places t.order refl one_ready (order_marks t s) in let b = s.all_places in omega arith
-
 pub order_room : (t : Tables) (p : ℕ) → Facts t → if_ready (place_at t p) ≡ 0 → p < 32 → length t.order < 32
 order_room t p s e h =
     let l = s.all_places in
     let a = room if_ready t.places t.order p refl one_ready (order_marks t s) e (omega arith) in
     omega arith
-
-pub list_few : (t : Tables) (i : ℕ) → Facts t → length (waits (line_at t i)) ≤ 32
-list_few t i s = let a = few if_deferred t.places (waits (line_at t i)) refl one_deferred (λ j. listed_mark t i j s) in let b = s.all_places in omega arith
 
 pub list_room : (t : Tables) (i k p : ℕ) → Facts t → slice_get t.commands k ≡ Some (reading p) → length (waits (line_at t i)) < 32
 list_room t i k p s e =
@@ -113,3 +104,12 @@ wake_room t i s =
     let b = length-append t.order ws in
     let c = s.all_places in
     omega arith
+
+-- a drawn place is not in the order yet
+pub drawn_room : (t : Tables) (p : ℕ) → Facts t → is_drawn (place_at t p) ≡ true → length t.order < 32
+drawn_room t p s e =
+    order_room t p s (ap if_ready (drawn_is (place_at t p) e)) (drawn_within t p s e)
+
+-- a held place is not in the order yet
+pub held_room : (t : Tables) (k p : ℕ) → Facts t → slice_get t.commands k ≡ Some (reading p) → length t.order < 32
+held_room t k p s e = let (h, w) = command_held t k p s e in order_room t p s (ap if_ready w) h

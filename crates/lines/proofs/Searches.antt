@@ -1,24 +1,40 @@
--- One step of the search for an address.
-use Rattle.std.proofs.Common.{◌≡◌, ℕ, ◌+◌, ◌<◌, ◌≤◌, List, map, length, get_or, drop, sym, refl, ap, ◌∙◌}
-use Rattle.std.proofs.lemmas.List.{at_drop_more, at_drop_all}
-use Rattle.lines.specs.declared.types.Line.{Line}
+-- The first line that tells of an address.
+use Rattle.std.proofs.Common.{◌≡◌, ℕ, zero, suc, ◌+◌, ◌<◌, List, [], ◌∷◌, map, length, get_or, Some, None, Option, refl, ap, sym, ◌∙◌, arith}
+use Rattle.std.specs.Option.{MatchOption}
 use Rattle.lines.specs.declared.types.Found as code
-use Rattle.lines.specs.declared.types.Found.TheVariants.{Absent, Waits, Holds}
-use Rattle.lines.specs.Model.{Found, absent, found, tells, or_later}
+use Rattle.lines.specs.declared.types.Line.{Line}
+use Rattle.lines.specs.declared.types.Found.TheVariants.{Waits, Holds}
+use Rattle.lines.specs.Model.{absent, found, tells, or_later, waits_at, holds}
+use Rattle.lines.specs.Model as model
 use Rattle.lines.specs.Plain.{plain_line, plain_found}
 
--- what the lines from i on say, by what line i says
-pub found_at : (a i : ℕ) (xs : List Line) (x : Line) (f : Found) → i < length xs → x ≡ get_or xs i x → f ≡ tells a i (plain_line x)
-    → found a i (map plain_line (drop i xs)) ≡ or_later f (found a (i + 1) (map plain_line (drop (i + 1) xs)))
-found_at a i xs x f h e t =
-    at_drop_more (λ ys. found a i (map plain_line ys)) xs i x h
-    ∙ ap (λ y. or_later (tells a i (plain_line y)) (found a (i + 1) (map plain_line (drop (i + 1) xs)))) (sym e)
-    ∙ ap (λ g. or_later g (found a (i + 1) (map plain_line (drop (i + 1) xs)))) (sym t)
+-- line k, counted from line j of all, tells what it is to tell
+abbrev pub Tells : ℕ → ℕ → List Line → ℕ → model.Found → Type 0
+Tells a j ls k f = (d : Line) → tells a (j + k) (plain_line (get_or ls k d)) ≡ f
 
-pub found_out : (a i : ℕ) (xs : List Line) → length xs ≤ i → found a i (map plain_line (drop i xs)) ≡ absent
-found_out a i xs h = at_drop_all (λ ys. found a i (map plain_line ys)) xs i h
+abbrev pub FirstTells : ℕ → ℕ → List Line → Option code.Found → Type 0
+FirstTells a j ls o =
+    MatchOption o
+    ((k : ℕ) → k < length ls → Tells a j ls k absent)
+    (λ f. (i : ℕ) × (i < length ls) × Tells a j ls i (plain_found (Some f)) × ((k : ℕ) → k < i → Tells a j ls k absent))
 
-pub told : (f : code.Found) (later : Found) → (f ≡ Absent → ⊥) → or_later (plain_found f) later ≡ plain_found f
-told Absent later other = absurd (other refl)
-told (Waits i) later other = refl
-told (Holds v) later other = refl
+same_number : (a : ℕ) {m n : ℕ} (l : model.Line) (f : model.Found) → m ≡ n → tells a n l ≡ f → tells a m l ≡ f
+same_number a l f e t = ap (λ k. tells a k l) e ∙ t
+
+passed : (a j : ℕ) (l : Line) (later told : model.Found) → tells a j (plain_line l) ≡ absent → told ≡ later → told ≡ or_later (tells a j (plain_line l)) later
+passed a j l later told none e = e ∙ ap (λ t. or_later t later) (sym none)
+
+told_here : (f : code.Found) (told later : model.Found) → told ≡ plain_found (Some f) → plain_found (Some f) ≡ or_later told later
+told_here (Waits i) told later e = ap (λ t. or_later t later) (sym e)
+told_here (Holds v) told later e = ap (λ t. or_later t later) (sym e)
+
+pub first_tells : (a j : ℕ) (ls : List Line) (o : Option code.Found) → FirstTells a j ls o → plain_found o ≡ found a j (map plain_line ls)
+first_tells a j [] None h = refl
+first_tells a j [] (Some f) h = absurd (omega (arith, h.1))
+first_tells a j (l ∷ ls) None h =
+    passed a j l _ _ (same_number a _ _ (omega arith) (h 0 (omega arith) l))
+    (first_tells a (j + 1) ls None (λ k low d. same_number a _ _ (omega arith) (h (suc k) (omega arith) d)))
+first_tells a j (l ∷ ls) (Some f) (zero, low, here, before) = told_here f _ _ (same_number a _ _ (omega arith) (here l))
+first_tells a j (l ∷ ls) (Some f) (suc i, low, here, before) =
+    passed a j l _ _ (same_number a _ _ (omega arith) (before 0 (omega arith) l))
+    (first_tells a (j + 1) ls (Some f) (i, omega arith, (λ d. same_number a _ _ (omega arith) (here d)), λ k few d. same_number a _ _ (omega arith) (before (suc k) (omega arith) d)))

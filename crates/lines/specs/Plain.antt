@@ -1,5 +1,5 @@
 -- The code's values as the model's: an address by its number.
-use Rattle.std.specs.Prelude.{Bool}
+use Rattle.std.specs.Prelude.{Some, None, Option}
 use Rattle.std.specs.Option.{option_map}
 use Rattle.bounded.specs.Listed.{listed}
 use Rattle.lines.specs.declared.types.Read.{Read}
@@ -18,9 +18,7 @@ use Rattle.lines.specs.declared.types.LineFault.TheVariants.{EveryLineWaits, Wri
 use Rattle.lines.specs.declared.types.ActFault.{ActFault}
 use Rattle.lines.specs.declared.types.ActFault.TheVariants.{NoSuchCommand, NetworkFull, Lines}
 use Rattle.lines.specs.declared.types.Found.{Found}
-use Rattle.lines.specs.declared.types.Found.TheVariants.{Absent, Waits, Holds}
-use Rattle.lines.specs.declared.types.Kind.{Kind}
-use Rattle.lines.specs.declared.types.Kind.TheVariants as kind
+use Rattle.lines.specs.declared.types.Found.TheVariants.{Waits, Holds}
 use Rattle.lines.specs.Model as model
 
 abbrev pub plain_read : Read → model.Read
@@ -61,12 +59,7 @@ plain_refusal NoSuchCommand = model.no_such_command
 plain_refusal (NetworkFull a) = model.network_full a.index
 plain_refusal (Lines f) = plain_fault f
 
-abbrev pub plain_found : Found → model.Found
-plain_found Absent = model.absent
-plain_found (Waits i) = model.waits_at i
-plain_found (Holds v) = model.holds v
-
--- whether a line is of the kind that is looked for
-abbrev pub of_kind : Kind → model.Line → Bool
-of_kind kind.Empty l = model.is_empty l
-of_kind kind.Filled l = model.is_filled l
+abbrev pub plain_found : Option Found → model.Found
+plain_found None = model.absent
+plain_found (Some (Waits i)) = model.waits_at i
+plain_found (Some (Holds v)) = model.holds v

@@ -9,5 +9,5 @@ mod types;
 pub use board::Board;
 pub use types::{
     ActFault, Acted, Answer, Command, Continuation, Line, LineFault, NotDrawn, Outgoing, Place,
-    PlacesTaken, Read, WritesHeld,
+    PlacesTaken, Read, Traffic, WritesHeld,
 };

@@ -1,25 +1,25 @@
 // What a board's tables hold, what comes out of it, and why it refuses.
-ghost use Rattle.std.specs.Prelude.{◌≡◌};
+ghost use Rattle.std.specs.Prelude.{◌≡◌, ◌-◌};
 ghost use Rattle.lines.specs.declared.types.ActFault.TheVariants.{Lines};
 
 use bounded::ArrayVec;
 use network::{Address, Node};
 
 // Where the answer of a read goes on.
-#[derive(Clone, Copy)]
+#[derive(Clone, Copy, PartialEq, Eq)]
 pub struct Continuation {
     pub frame: u32,
     pub instruction: u32,
 }
 
-#[derive(Clone, Copy)]
+#[derive(Clone, Copy, PartialEq, Eq)]
 pub struct Read {
     pub address: Address,
     pub continuation: Continuation,
 }
 
 // A place for a read; a ready or drawn one has the word.
-#[derive(Clone, Copy)]
+#[derive(Clone, Copy, PartialEq, Eq)]
 pub enum Place {
     Free,
     Held(Read),
@@ -37,53 +37,70 @@ pub enum Line {
 }
 
 // A read command names its place.
-#[derive(Clone, Copy)]
+// An address and its word stand as two values, as in a message: a pair would be taken apart again at each use.
+#[derive(Clone, Copy, PartialEq, Eq)]
 pub enum Command {
     Read(usize),
     Write(Address, u64),
 }
 
 // What goes out to the home of an address.
-#[derive(Clone, Copy)]
+#[derive(Clone, Copy, PartialEq, Eq)]
 pub enum Outgoing {
     Read(Address),
     Write(Address, u64),
 }
 
 // What an act did: how many places it made ready, and what goes out.
-#[derive(Clone, Copy)]
+#[derive(Clone, Copy, PartialEq, Eq)]
 pub struct Acted {
     pub readied: usize,
     pub sends: Option<Outgoing>,
 }
 
 // The word of a place that was ready longest.
-#[derive(Clone, Copy)]
+#[derive(Clone, Copy, PartialEq, Eq)]
 pub struct Answer {
     pub place: usize,
     pub read: Read,
     pub word: u64,
 }
 
+// How many messages the network holds, and how many it may hold.
+#[derive(Clone, Copy, PartialEq, Eq)]
+pub struct Traffic {
+    pub load: usize,
+    pub limit: usize,
+}
+
+impl Traffic {
+    // How many more it may hold.
+    pub fn room(self) -> usize
+        ensures { result ≡ self.limit - self.load }
+    {
+        self.limit.saturating_sub(self.load)
+    }
+}
+
 // No place is free.
-#[derive(Clone, Copy)]
+#[derive(Clone, Copy, PartialEq, Eq)]
 pub struct PlacesTaken;
 
 // As many writes are held as may be.
-#[derive(Clone, Copy)]
+#[derive(Clone, Copy, PartialEq, Eq)]
 pub struct WritesHeld;
 
-#[derive(Clone, Copy)]
+#[derive(Clone, Copy, PartialEq, Eq)]
 pub struct NotDrawn;
 
 // The faults of the lines, with the node and the address.
-#[derive(Clone, Copy)]
+#[derive(Clone, Copy, PartialEq, Eq)]
 pub enum LineFault {
     EveryLineWaits(Node, Address),
     WrittenTwice(Node, Address),
 }
 
-#[derive(Clone, Copy)]
+#[derive(Clone, Copy, PartialEq, Eq)]
 pub enum ActFault {
     NoSuchCommand,
     NetworkFull(Address),
@@ -98,17 +115,9 @@ impl From<LineFault> for ActFault {
     }
 }
 
-// What the lines say of an address.
+// What a line says of an address: that it waits, by its number, or the word that it holds.
 #[derive(Clone, Copy)]
 pub(crate) enum Found {
-    Absent,
     Waits(usize),
     Holds(u64),
-}
-
-// The lines that can be claimed.
-#[derive(Clone, Copy)]
-pub(crate) enum Kind {
-    Empty,
-    Filled,
 }

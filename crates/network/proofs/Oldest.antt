@@ -1,7 +1,10 @@
 -- The oldest message to a destination, and the first destination that has one.
-use Rattle.std.proofs.Common.{◌≡◌, ℕ, suc, ◌+◌, ◌%◌, ◌<◌, ◌≤◌, false, cond, List, [], ◌∷◌, length, get_or, drop, Some, None, Option, sym, refl, ap, ◌∙◌, subst, arith}
-use Rattle.std.proofs.lemmas.List.{at_drop_more, at_drop_all}
-use Rattle.std.proofs.lemmas.Bool.{eq-eqb, ne_eqb, lt-ltb, ltb-true, both_ways}
+use Rattle.std.proofs.Common.{◌≡◌, ℕ, suc, ltb, ◌==◌, ◌+◌, ◌%◌, ◌<◌, ◌≤◌, Bool, false, cond, not, List, [], ◌∷◌, length, get_or, drop, Some, None, Option, sym, refl, ap, ◌∙◌, subst, ⊎_elim, arith}
+use Rattle.std.specs.List.{position_or_len}
+use Rattle.std.proofs.lemmas.List.Sums.{prefix_len-le-length}
+use Rattle.std.specs.Option.{unwrap_or}
+use Rattle.std.proofs.lemmas.List.Recursion.{is_position_or_len}
+use Rattle.std.proofs.lemmas.Bool.{eq-eqb, ne_eqb, lt-ltb, le-ltb, ltb-true, cases_lt, both_ways}
 use Rattle.rounds.specs.Rounds.{first_round, Searched}
 use Rattle.rounds.proofs.Rounds.{counts_round}
 use Rattle.network.specs.declared.message.Message.{Message}
@@ -15,22 +18,23 @@ at_hit d m ms e = ap (λ b. cond b 0 (suc (first_to d ms))) (eq-eqb m.to.index d
 at_miss : (d : ℕ) (m : Message) (ms : List Message) → (m.to.index ≡ d → ⊥) → first_to d (m ∷ ms) ≡ suc (first_to d ms)
 at_miss d m ms e = ap (λ b. cond b 0 (suc (first_to d ms))) (ne_eqb m.to.index d e)
 
--- the steps of a loop that has passed i messages
-module _ (d : ℕ) (xs : List Message) (i : ℕ) (all : ℕ) (sofar : i + first_to d (drop i xs) ≡ all) where
-  pub hit : (m : Message) → i < length xs → m ≡ get_or xs i m → m.to.index ≡ d → i ≡ all
-  hit m lt is e =
-      let more = at_drop_more (first_to d) xs i m lt in
-      let zero-here = at_hit d (get_or xs i m) (drop (i + 1) xs) (ap (λ x. x.to.index) (sym is) ∙ e) in
-      omega (arith, more ∙ zero-here)
+-- the oldest message to a destination is the first that passes a test
+first_passing : (d : ℕ) (ms : List Message) → first_to d ms ≡ position_or_len (λ m. m.to.index == d) ms
+first_passing d ms = is_position_or_len (first_to d) (λ m. m.to.index == d) refl (λ m rest. let e : suc (first_to d rest) ≡ 1 + first_to d rest = omega arith in ap (λ n. cond (m.to.index == d) 0 n) e) ms
 
-  pub miss : (m : Message) → i < length xs → m ≡ get_or xs i m → (m.to.index ≡ d → ⊥) → (i + 1) + first_to d (drop (i + 1) xs) ≡ all
-  miss m lt is e =
-      let more = at_drop_more (first_to d) xs i m lt in
-      let one-here = at_miss d (get_or xs i m) (drop (i + 1) xs) (λ s. e (ap (λ x. x.to.index) is ∙ s)) in
-      omega (arith, more ∙ one-here)
+told_or : (k n : ℕ) → k ≤ n → unwrap_or (cond (ltb k n) (Some k) None) n ≡ k
+told_or k n le =
+    ⊎_elim
+    (λ h. ap (λ b. unwrap_or (cond b (Some k) None) n) (lt-ltb k n h))
+    (λ h. let e : n ≡ k = omega arith in ap (λ b. unwrap_or (cond b (Some k) None) n) (le-ltb k n h) ∙ e)
+    (cases_lt k n)
 
-  pub end : length xs ≤ i → i ≤ length xs → length xs ≡ all
-  end le ge = omega (arith, at_drop_all (first_to d) xs i le)
+-- a search that answers no position stands for the length
+pub searched : (d : ℕ) (ms : List Message) (r : Option ℕ) → (let k = position_or_len (λ m. m.to.index == d) ms in r ≡ cond (ltb k (length ms)) (Some k) None) → unwrap_or r (length ms) ≡ first_to d ms
+searched d ms r e =
+    let test : Message → Bool = λ m. m.to.index == d in
+    let within = prefix_len-le-length (λ m. not (test m)) ms in
+    ap (λ o. unwrap_or o (length ms)) e ∙ told_or (position_or_len test ms) (length ms) within ∙ sym (first_passing d ms)
 
 -- where no destination has a message there is none
 no_lanes : (ms : List Message) → ((d : ℕ) → d < 16 → waits ms d ≡ false) → ms ≡ []

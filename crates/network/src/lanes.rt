@@ -8,7 +8,7 @@ ghost use Rattle.std.proofs.Common.{rules};
 use crate::message::Message;
 use crate::network::Network;
 use bounded::{ArrayVec, Full};
-use rounds::one_past;
+use rounds::first_round;
 
 #[derive(Drop)]
 pub struct Lanes {
@@ -28,14 +28,9 @@ impl Lanes {
     fn next_lane(&self, pick: u64) -> Option<usize>
         ensures { result ≡ first_round (waits (listed self.now.held)) 16 (pick % 16) }
     {
-        let mut lane = (pick % 16) as usize;
-        for _turn in 0..16usize {
-            if first_to(self.held.as_slice(), lane) < self.held.len() {
-                return Some(lane);
-            }
-            lane = one_past(lane, 16);
-        }
-        None
+        first_round((pick % 16) as usize, 16, |lane| {
+            first_to(self.held.as_slice(), lane) < self.held.len()
+        })
     }
 }
 
@@ -43,12 +38,10 @@ impl Lanes {
 fn first_to(messages: &[Message], lane: usize) -> usize
     ensures { result ≡ first_to lane messages.now }
 {
-    for (i, m) in messages.iter().enumerate() {
-        if m.to().index() == lane {
-            return i;
-        }
-    }
-    messages.len()
+    messages
+        .iter()
+        .position(|m| m.to().index() == lane)
+        .unwrap_or(messages.len())
 }
 
 impl Network for Lanes {

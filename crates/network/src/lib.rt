@@ -11,7 +11,7 @@ mod twin;
 pub use bounded::Full;
 pub use delay::Delay;
 pub use lanes::Lanes;
-pub use message::{Address, Kind, Message, Node};
+pub use message::{Address, Kind, Message, Node, Number};
 pub use network::Network;
 pub use pool::Pool;
 pub use twin::Twin;

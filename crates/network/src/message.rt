@@ -11,21 +11,21 @@ pub enum Kind {
     Reply,
 }
 
-// The number of one of sixteen boards.
-#[derive(Clone, Copy)]
-pub struct Node {
-    index: u8,
-    ghost within: { index < 16 },
+// A number below a limit.
+#[derive(Clone, Copy, PartialEq, Eq)]
+pub struct Number<const LIMIT: u16> {
+    index: u16,
+    ghost within: { index < LIMIT },
 }
+
+// The number of one of sixteen boards.
+pub type Node = Number<16>;
 
 // The number of one of 1,024 cells.
-#[derive(Clone, Copy)]
-pub struct Address {
-    index: u16,
-    ghost within: { index < 1024 },
-}
+pub type Address = Number<1024>;
 
 // The sender of a reply is the home of its address. A read carries the word 0.
+// Kind and word stand apart: with words in its variants, a kind would need a second enum for the theorems' plain kinds.
 #[derive(Clone, Copy)]
 pub struct Message {
     kind: Kind,

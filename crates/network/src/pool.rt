@@ -10,6 +10,7 @@ use crate::message::Message;
 use crate::network::Network;
 use bounded::{ArrayVec, Full};
 
+// Only a take is not as in the lanes: a trait for that one method would be longer than the methods that it saves.
 #[derive(Drop)]
 pub struct Pool {
     held: ArrayVec<Message, 64>,

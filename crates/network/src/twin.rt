@@ -44,6 +44,7 @@ impl<P: Network, Q: Network> Network for Twin<P, Q> {
     }
 
     fn take(&mut self, pick: u64) -> Option<Message> {
+        // Twice, in either order: one function of both would have to tell apart which network gave.
         let half = pick / 2;
         if pick % 2 == 0 {
             match self.first.take(half) {

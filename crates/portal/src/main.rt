@@ -1,12 +1,10 @@
 // Reads a script from standard input, and prints an answer line for each of its lines.
 #![tactic(auto)]
 
-mod serve;
-
 use anyhow::anyhow;
-use network::{Delay, Lanes, Pool, Twin};
-use serve::serve;
+use network::{Delay, Lanes, Network, Pool, Twin};
 use std::env;
+use std::io::{BufWriter, Write};
 
 fn help(rt: &HostRuntime) -> anyhow::Result<()> {
     println!(rt; "portal [NETWORK]: runs a script from standard input on a write-once memory.")?;
@@ -21,6 +19,13 @@ fn help(rt: &HostRuntime) -> anyhow::Result<()> {
     println!(rt; "  C,kind,length                  create; answers the base")?;
     println!(rt; "NETWORK is pool (if none is named), lanes, twin(pool,lanes), delay(pool),")?;
     println!(rt; "delay(lanes) or delay(twin(pool,lanes)).")?;
+    Ok(())
+}
+
+fn serve<N: Network + Drop>(rt: &HostRuntime, network: N) -> anyhow::Result<()> {
+    let mut out = BufWriter::new(rt.alloc(), rt.stdout())?;
+    serving::serve(network, &mut rt.stdin(), &mut out)?;
+    out.flush()?;
     Ok(())
 }
 

@@ -1,5 +1,5 @@
 -- Counting up and round, and the first number on the way that passes a test.
-use Rattle.std.specs.Prelude.{◌≡◌, ℕ, zero, suc, ◌+◌, ◌%◌, ◌<◌, Bool, true, false, cond, Some, None, Option, nat_lt}
+use Rattle.std.specs.Prelude.{◌≡◌, ℕ, zero, suc, ◌+◌, ◌%◌, ◌^◌, ◌<◌, Bool, true, false, cond, Some, None, Option, nat_lt}
 
 -- the number after i of n numbers; after the last comes 0
 abbrev pub after : ℕ → ℕ → ℕ
@@ -30,3 +30,7 @@ Searched test n i (Some k) = First test n i k
 -- a search once round from any of the n numbers finds the first that passes
 abbrev pub CountsRound : Type 0
 CountsRound = (test : ℕ → Bool) (n i : ℕ) → i < n → Searched test n i (first_round test n i)
+
+-- what calls answer of a number is what a test says of it
+abbrev pub Tests : (ℕ → Bool → Type 0) → (ℕ → Bool) → Type 0
+Tests calls test = (i : ℕ) (b : Bool) → i < 2 ^ 64 → calls i b → b ≡ test i

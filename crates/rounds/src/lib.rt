@@ -1,8 +1,8 @@
 // Counting up and round.
 #![tactic(auto)]
 
-ghost use Rattle.std.specs.Prelude.{◌≡◌};
-ghost use Rattle.rounds.specs.Rounds.{after, CountsRound};
+ghost use Rattle.std.specs.Prelude.{◌≡◌, ℕ, Bool};
+ghost use Rattle.rounds.specs.Rounds.{after, CountsRound, first_round, Tests};
 
 // The number after `i` of `n` numbers; after the last comes 0.
 #[tactic(auto, using(crate::proofs::Rounds::counts_round))]
@@ -14,4 +14,20 @@ pub fn one_past(i: usize, n: usize) -> usize
         Some(next) if next < n => next,
         _ => 0,
     }
+}
+
+// The first of `n` numbers that passes a test, counted up and round from `start`.
+pub fn first_round<F: Fn(usize) -> bool>(start: usize, n: usize, test: F) -> Option<usize>
+    requires { F.IsAlwaysCallable test }
+    ensures { (passes : ℕ → Bool) → Tests (F.post test) passes → result ≡ first_round passes n start }
+{
+    // The one loop that goes round by hand: the library has no iterator that does.
+    let mut i = start;
+    for _turn in 0..n {
+        if test(i) {
+            return Some(i);
+        }
+        i = one_past(i, n);
+    }
+    None
 }

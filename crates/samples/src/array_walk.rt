@@ -2,21 +2,27 @@
 use crate::calls::refused;
 use anyhow::anyhow;
 use array::{ArrayRef, open_answer, read_element, write_element};
-use lines::Answer;
+use lines::{Answer, Continuation};
 use network::Pool;
-use system::{System, SystemFault};
+use system::{Sizes, System, SystemFault};
 
 const SAMPLES: [f32; 4] = [0.5, -1.25, 3.0, 100.0];
 // The most messages that are delivered in one go.
 const DELIVERIES: u64 = 64;
+// The most answers that a board has.
+const PLACES: u8 = 32;
 
 // Board 0 asks for every sample; the last index is one too far.
 fn read_all(rt: &HostRuntime, system: &mut System<Pool>, array: ArrayRef) -> anyhow::Result<()> {
     for index in 0..5u64 {
         print!(rt; "  board 0 reads sample {index}: ")?;
-        match read_element::<f32, Pool>(system, 0, array, index, 1, index as u32) {
+        let continuation = Continuation {
+            frame: 1,
+            instruction: index as u32,
+        };
+        match read_element::<f32, Pool>(system, 0, array, index, continuation) {
             Ok(place) => println!(rt; "place {place}")?,
-            Err(why) => refused(rt, why.refusal())?,
+            Err(why) => refused(rt, why)?,
         }
         let _ = system.act(0, 0);
     }
@@ -26,12 +32,11 @@ fn read_all(rt: &HostRuntime, system: &mut System<Pool>, array: ArrayRef) -> any
 // The other boards write them.
 fn write_all(rt: &HostRuntime, system: &mut System<Pool>, array: ArrayRef) -> anyhow::Result<()> {
     for (index, sample) in SAMPLES.iter().enumerate() {
-        let sample = *sample;
         let node = 1 + index as u64 % 2;
         print!(rt; "  board {node} writes sample {index}, {sample}: ")?;
-        match write_element::<f32, Pool>(system, node, array, index as u64, sample) {
+        match write_element::<f32, Pool>(system, node, array, index as u64, *sample) {
             Ok(()) => println!(rt; "done")?,
-            Err(why) => refused(rt, why.refusal())?,
+            Err(why) => refused(rt, why)?,
         }
         let _ = system.act(node, 0);
     }
@@ -48,20 +53,13 @@ fn deliver_all(system: &mut System<Pool>) {
 
 // The answer longest ready at board 0, finished.
 fn next(system: &mut System<Pool>) -> Result<Answer, SystemFault> {
-    match system.draw(0) {
-        Ok(got) => {
-            let (drawn, answer) = got;
-            match system.finish(drawn) {
-                Ok(()) => Ok(answer),
-                Err(why) => Err(why),
-            }
-        }
-        Err(why) => Err(why),
-    }
+    let (drawn, answer) = system.draw(0)?;
+    system.finish(drawn)?;
+    Ok(answer)
 }
 
 fn draw_all(rt: &HostRuntime, system: &mut System<Pool>) -> anyhow::Result<()> {
-    for _turn in 0..32u8 {
+    for _turn in 0..PLACES {
         let Ok(answer) = next(system) else {
             break;
         };
@@ -69,7 +67,7 @@ fn draw_all(rt: &HostRuntime, system: &mut System<Pool>) -> anyhow::Result<()> {
         print!(rt; "  board 0 draws sample {index}: ")?;
         match open_answer::<f32>(answer) {
             Ok(sample) => println!(rt; "{sample}")?,
-            Err(why) => refused(rt, why.refusal())?,
+            Err(why) => refused(rt, why)?,
         }
     }
     Ok(())
@@ -78,12 +76,17 @@ fn draw_all(rt: &HostRuntime, system: &mut System<Pool>) -> anyhow::Result<()> {
 pub(crate) fn walk(rt: &HostRuntime) -> anyhow::Result<()> {
     println!(rt; "An array of samples on three boards over the pool:")?;
     let mut system = System::new(Pool::new());
-    if system.start(3, 4, 4).is_err() {
+    let sizes = Sizes {
+        nodes: 3,
+        lines: 4,
+        cells: 4,
+    };
+    if system.start(sizes).is_err() {
         return Err(anyhow!("no start"));
     }
     let array = match array::create::<f32, Pool>(&mut system, 4) {
         Ok(array) => array,
-        Err(why) => return refused(rt, why.refusal()),
+        Err(why) => return refused(rt, why),
     };
     read_all(rt, &mut system, array)?;
     deliver_all(&mut system);

@@ -1,7 +1,8 @@
 // The nine calls on two boards over the pool: every call with its answer.
-use lines::Answer;
+use lines::{Answer, Continuation};
 use network::Pool;
-use system::{Refusal, System, SystemFault};
+use std::fmt::Display;
+use system::{Drawn, Refusal, Sizes, System, SystemFault};
 
 // The calls of the list; a finish and a put back are of what was drawn last.
 #[derive(Clone, Copy)]
@@ -39,77 +40,51 @@ const CALLS: [Call; 20] = [
     Call::Read(0, 4, 7, 3),
 ];
 
-pub(crate) fn refused(rt: &HostRuntime, refusal: Refusal) -> anyhow::Result<()> {
-    let number = refusal.number;
-    print!(rt; "refused, {number}")?;
-    if let Some(node) = refusal.node {
-        print!(rt; ", node {node}")?;
-    }
-    if let Some(address) = refusal.address {
-        print!(rt; ", address {address}")?;
-    }
-    println!(rt; "")?;
+pub(crate) fn refused(rt: &HostRuntime, fault: impl Into<Refusal>) -> anyhow::Result<()> {
+    let refusal: Refusal = fault.into();
+    println!(rt; "{refusal}")?;
     Ok(())
 }
 
-fn told(rt: &HostRuntime, answer: Result<(), SystemFault>) -> anyhow::Result<()> {
+fn told<T: Display + Drop>(rt: &HostRuntime, answer: Result<T, SystemFault>) -> anyhow::Result<()> {
     match answer {
-        Ok(()) => {
-            println!(rt; "done")?;
+        Ok(answer) => {
+            println!(rt; "{answer}")?;
             Ok(())
         }
-        Err(fault) => refused(rt, fault.refusal()),
-    }
-}
-
-fn counted(rt: &HostRuntime, answer: Result<usize, SystemFault>) -> anyhow::Result<()> {
-    match answer {
-        Ok(number) => {
-            println!(rt; "{number}")?;
-            Ok(())
-        }
-        Err(fault) => refused(rt, fault.refusal()),
+        Err(fault) => refused(rt, fault),
     }
 }
 
 fn show_answer(rt: &HostRuntime, answer: Answer) -> anyhow::Result<()> {
-    let place = answer.place;
-    let address = answer.read.address.index();
-    let word = answer.word;
-    let frame = answer.read.continuation.frame;
-    let instruction = answer.read.continuation.instruction;
+    let Answer { place, read, word } = answer;
+    let Continuation { frame, instruction } = read.continuation;
     println!(rt;
-        "place {place}, address {address}, word {word}, frame {frame}, instruction {instruction}"
+        "place {place}, address {}, word {word}, frame {frame}, instruction {instruction}",
+        read.address.index()
     )?;
     Ok(())
 }
 
 // A drawn answer is spent before anything else can fail: the compiler asks for it.
-fn draw_and_finish(rt: &HostRuntime, system: &mut System<Pool>, node: u64) -> anyhow::Result<()> {
+fn draw<F: FnOnce(&mut System<Pool>, Drawn) -> Result<(), SystemFault>>(
+    rt: &HostRuntime,
+    system: &mut System<Pool>,
+    node: u64,
+    name: &str,
+    spend: F,
+) -> anyhow::Result<()>
+    requires { F.IsAlwaysCallable spend }
+{
     print!(rt; "  draw {node}: ")?;
     match system.draw(node) {
-        Ok(got) => {
-            let (drawn, answer) = got;
-            let finished = system.finish(drawn);
+        Ok((drawn, answer)) => {
+            let spent = spend(system, drawn);
             show_answer(rt, answer)?;
-            print!(rt; "  finish: ")?;
-            told(rt, finished)
+            print!(rt; "  {name}: ")?;
+            told(rt, spent.map(|()| "done"))
         }
-        Err(fault) => refused(rt, fault.refusal()),
-    }
-}
-
-fn draw_and_put_back(rt: &HostRuntime, system: &mut System<Pool>, node: u64) -> anyhow::Result<()> {
-    print!(rt; "  draw {node}: ")?;
-    match system.draw(node) {
-        Ok(got) => {
-            let (drawn, answer) = got;
-            let put_back = system.put_back(drawn);
-            show_answer(rt, answer)?;
-            print!(rt; "  put back: ")?;
-            told(rt, put_back)
-        }
-        Err(fault) => refused(rt, fault.refusal()),
+        Err(fault) => refused(rt, fault),
     }
 }
 
@@ -117,29 +92,51 @@ fn make(rt: &HostRuntime, system: &mut System<Pool>, call: Call) -> anyhow::Resu
     match call {
         Call::Start(nodes, lines, cells) => {
             print!(rt; "  start {nodes} {lines} {cells}: ")?;
-            told(rt, system.start(nodes, lines, cells))
+            let sizes = Sizes {
+                nodes,
+                lines,
+                cells,
+            };
+            told(rt, system.start(sizes).map(|()| "done"))
         }
         Call::Read(node, address, frame, instruction) => {
             print!(rt; "  read {node} {address} {frame} {instruction}: ")?;
-            counted(rt, system.read(node, address, frame, instruction))
+            let continuation = Continuation { frame, instruction };
+            told(rt, system.read(node, address, continuation))
         }
         Call::Write(node, address, word) => {
             print!(rt; "  write {node} {address} {word}: ")?;
-            told(rt, system.write(node, address, word))
+            told(rt, system.write(node, address, word).map(|()| "done"))
         }
         Call::Act(node, pick) => {
             print!(rt; "  act {node} {pick}: ")?;
-            counted(rt, system.act(node, pick))
+            told(rt, system.act(node, pick))
         }
         Call::Deliver(pick) => {
             print!(rt; "  deliver {pick}: ")?;
-            counted(rt, system.deliver(pick))
+            told(rt, system.deliver(pick))
         }
-        Call::DrawAndFinish(node) => draw_and_finish(rt, system, node),
-        Call::DrawAndPutBack(node) => draw_and_put_back(rt, system, node),
+        Call::DrawAndFinish(node) => {
+            draw(
+                rt,
+                system,
+                node,
+                "finish",
+                |system, drawn| system.finish(drawn),
+            )
+        }
+        Call::DrawAndPutBack(node) => {
+            draw(
+                rt,
+                system,
+                node,
+                "put back",
+                |system, drawn| system.put_back(drawn),
+            )
+        }
         Call::Create(kind, length) => {
             print!(rt; "  create {kind} {length}: ")?;
-            counted(rt, system.create(kind, length))
+            told(rt, system.create(kind, length))
         }
     }
 }

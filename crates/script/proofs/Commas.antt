@@ -1,8 +1,8 @@
 -- Fields with commas between them, and those that are read so far.
-use Rattle.std.proofs.Common.{◌≡◌, ℕ, ◌+◌, ◌*◌, ◌^◌, ◌<◌, ◌≤◌, cond, eqb, List, [], ◌∷◌, ◌++◌, length, get_or, take, drop, set, decimal, sym, refl, ap, ◌∙◌, subst, inl, append_assoc, arith, length-append}
+use Rattle.std.proofs.Common.{◌≡◌, ℕ, ◌+◌, ◌*◌, ◌^◌, ◌<◌, ◌≤◌, cond, eqb, List, [], ◌∷◌, ◌++◌, length, get_or, take, drop, set, decimal, sym, refl, ap, ◌∙◌, subst, inl, append_assoc, arith, length-append, length-set}
 use Rattle.std.proofs.lemmas.Bool.Decides.{nat_tests}
 use Rattle.std.proofs.lemmas.Fmt.{digits_decimal, decimal_injective, length-decimal-le}
-use Rattle.std.proofs.lemmas.List.{take-append-drop, take_more_set, drop_more, length-take-le, drop_all, take_all, append-nil}
+use Rattle.std.proofs.lemmas.List.{take-append-drop, take_more_set, drop_more, length-take-le, drop_all, append-nil}
 use Rattle.script.specs.Texts.{fields_text, Small, NoDigit, Front, NoFront, Fielded}
 use Rattle.script.proofs.Numbers.{own, cut}
 
@@ -74,54 +74,52 @@ same_whole (x ∷ xs) (y ∷ ys) hx hy e =
     let tail = same_whole xs ys hx.1 hy.1 first.1 in
     cc
 
--- the first i of the values are read, and p is what is left of the text
-pub record Sofar (text vs : List ℕ) (i : ℕ) (p : List ℕ) : Type 0 where
+-- of n values the first i are read, and p is what is left of the text
+pub record Sofar (n : ℕ) (text vs : List ℕ) (i : ℕ) (p : List ℕ) : Type 0 where
   pub is : 44 ∷ text ≡ fields_text (take i vs) ++ p
   pub ends : NoDigit p
   pub small : Small (take i vs)
+  pub count : length vs ≡ n
 
 -- one more field
-pub read : (text vs : List ℕ) (i : ℕ) (p s r : List ℕ) (n : ℕ) → i < length vs → Sofar text vs i p → p ≡ 44 ∷ s → Front s n r → Sofar text (set vs i n) (i + 1) r
-read text vs i p s r n l h e f =
-    let t = take_more_set vs i n l in
+pub read : (n : ℕ) (text vs : List ℕ) (i : ℕ) (p s r : List ℕ) (x : ℕ) → i < n → Sofar n text vs i p → p ≡ 44 ∷ s → Front s x r → Sofar n text (set vs i x) (i + 1) r
+read n text vs i p s r x l h e f =
+    let t = take_more_set vs i x (omega (arith, l, h.count)) in
     record {
-      is = rw (t, fields_push (take i vs) n r) (h.is ∙ ap (λ (z : List ℕ). fields_text (take i vs) ++ z) (e ∙ ap (λ (z : List ℕ). 44 ∷ z) f.is));
+      is = rw (t, fields_push (take i vs) x r) (h.is ∙ ap (λ (z : List ℕ). fields_text (take i vs) ++ z) (e ∙ ap (λ (z : List ℕ). 44 ∷ z) f.is));
       ends = f.ends;
-      small = rw t (small_push (take i vs) n h.small f.fits);
+      small = rw t (small_push (take i vs) x h.small f.fits);
+      count = length-set vs i x ∙ h.count;
     }
 
-module _ (text vs : List ℕ) (i : ℕ) (p ys : List ℕ) (h : Sofar text vs i p) (f : Fielded (length vs) text ys) where
+module _ (n : ℕ) (text vs : List ℕ) (i : ℕ) (p ys : List ℕ) (h : Sofar n text vs i p) (f : Fielded n text ys) where
   -- what is left of the fields that a text has
-  left : i ≤ length vs → p ≡ fields_text (drop i ys)
+  left : i ≤ n → p ≡ fields_text (drop i ys)
   left l =
       let split : fields_text ys ≡ fields_text (take i ys) ++ fields_text (drop i ys) = ap fields_text (sym (take-append-drop i ys)) ∙ fields_split (take i ys) (drop i ys) in
       let s = small_parts (take i ys) (drop i ys) (rw (take-append-drop i ys) f.small) in
-      (same_fields (take i vs) (take i ys) p (fields_text (drop i ys)) (length-take-le i vs l ∙ sym (length-take-le i ys (omega (arith, l, f.count)))) h.small s.0 h.ends (no_digit_alone (drop i ys)) (sym h.is ∙ (f.is ∙ split))).1
+      (same_fields (take i vs) (take i ys) p (fields_text (drop i ys)) (length-take-le i vs (omega (arith, l, h.count)) ∙ sym (length-take-le i ys (omega (arith, l, f.count)))) h.small s.0 h.ends (no_digit_alone (drop i ys)) (sym h.is ∙ (f.is ∙ split))).1
 
   -- a comma and a number, where there is more to come
-  goes_on : i < length vs → (n : ℕ) × (r : List ℕ) × (n < 2 ^ 64) × NoDigit r × (p ≡ 44 ∷ (decimal n ++ r))
+  goes_on : i < n → (x : ℕ) × (r : List ℕ) × (x < 2 ^ 64) × NoDigit r × (p ≡ 44 ∷ (decimal x ++ r))
   goes_on l =
       let d = drop_more ys i 0 (omega (arith, l, f.count)) in
       let s : Small (get_or ys i 0 ∷ drop (i + 1) ys) = subst Small d (small_parts (take i ys) (drop i ys) (rw (take-append-drop i ys) f.small)).1 in
       (get_or ys i 0, fields_text (drop (i + 1) ys), s.0, no_digit_alone (drop (i + 1) ys), left (omega (arith, l)) ∙ ap fields_text d)
 
   -- so where no number comes, no comma, or too much, the text has no such fields
-  pub no_number : (s : List ℕ) → i < length vs → p ≡ 44 ∷ s → NoFront s → ⊥
+  pub no_number : (s : List ℕ) → i < n → p ≡ 44 ∷ s → NoFront s → ⊥
   no_number s l e none =
       let g = goes_on l in
       let eq = g.4 in
       let same : s ≡ decimal g.0 ++ g.1 = cc in
       none g.0 g.1 (record { is = same; fits = g.2; ends = g.3 })
 
-  pub no_comma : i < length vs → ((s : List ℕ) → p ≡ 44 ∷ s → ⊥) → ⊥
+  pub no_comma : i < n → ((s : List ℕ) → p ≡ 44 ∷ s → ⊥) → ⊥
   no_comma l none = let g = goes_on l in none (decimal g.0 ++ g.1) g.4
 
-  pub too_much : i ≡ length vs → 0 < length p → ⊥
-  too_much l some =
-      let e = left (omega (arith, l)) in
-      let d : drop i ys ≡ [] = drop_all i ys (omega (arith, l, f.count)) in
+  pub too_much : n ≤ i → i ≤ n → 0 < length p → ⊥
+  too_much m l some =
+      let e = left l in
+      let d : drop i ys ≡ [] = drop_all i ys (omega (arith, m, f.count)) in
       omega (arith, some, ap length e, ap (λ (z : List ℕ). length (fields_text z)) d)
-
--- at the end
-pub whole : (text vs : List ℕ) (i : ℕ) (p : List ℕ) → length vs ≤ i → Sofar text vs i p → p ≡ [] → Fielded (length vs) text vs
-whole text vs i p l h e = record { is = h.is ∙ simp (take_all i vs l, e, append-nil); small = subst Small (take_all i vs l) h.small; count = refl }

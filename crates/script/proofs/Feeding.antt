@@ -3,7 +3,7 @@ use Rattle.std.proofs.Common.{◌≡◌, ℕ, ◌<◌, ◌≤◌, Bool, true, fa
 use Rattle.std.proofs.lemmas.List.{length_push}
 use Rattle.std.proofs.lemmas.Bool.{cond-true, cond-false, le-leb, lt-leb, cases_lt}
 use Rattle.script.specs.Inputs.{InputLine, text, overlong, unended, line_of, last_of, lines_from}
-use Rattle.script.specs.Readers.{Reading, begun, opened, grown, fed, given, left, read_all, ReadsAll}
+use Rattle.script.specs.Readers.{Reading, begun, opened, grown, given, left, read_all, ReadsAll}
 
 kept : (bs : List ℕ) → length bs ≤ 96 → line_of bs ≡ text bs
 kept bs l = cond-true (leb (length bs) 96) (text bs) overlong (le-leb (length bs) 96 l)
@@ -43,20 +43,3 @@ reads_from m held (b ∷ bs) e =
 
 pub reads_all : ReadsAll
 reads_all input = reads_from begun [] input refl
-
--- a byte that finds no room
-long_line : (long : Bool) (bs : List ℕ) (b : ℕ) → 96 ≤ length bs → overlong ≡ grown (cond long overlong (text bs)) b
-long_line true bs b l = refl
-long_line false bs b l = sym (passed (bs ++ b ∷ []) (omega (arith, l, length_push bs b)))
-
-opened_on : (v : Bool) (m : Reading) → v ≡ m.ended → (cond v begun m).ended ≡ false
-opened_on true m e = refl
-opened_on false m e = sym e
-
-pub fed_long : (m o : Reading) (long : Bool) (bs : List ℕ) (b : ℕ) → o ≡ opened m → o.line ≡ cond long overlong (text bs) → 96 ≤ length bs → eqb b 10 ≡ false → record { line = overlong; ended = o.ended } ≡ fed m b
-fed_long m o long bs b same line l other =
-    let E : Bool → Reading = λ v. record { line = overlong; ended = v } in
-    let L : InputLine → Reading = λ x. record { line = x; ended = false } in
-    ap E (ap (λ (r : Reading). r.ended) same ∙ opened_on m.ended m refl)
-    ∙ (ap L (long_line long bs b l ∙ ap (λ (z : InputLine). grown z b) (sym line ∙ ap (λ (r : Reading). r.line) same))
-    ∙ sym (cond-false (eqb b 10) _ _ other))

@@ -1,13 +1,16 @@
 -- Numbers at the front of a text.
-use Rattle.std.proofs.Common.{◌≡◌, ℕ, zero, suc, ◌^◌, ◌<◌, true, false, ◌&&◌, eqb, ltb, List, [], ◌∷◌, ◌++◌, length, get_or, decimal, sym, refl, ap, ◌∙◌, subst, ⊎_elim, arith}
+use Rattle.std.proofs.Common.{◌≡◌, ℕ, zero, suc, ◌^◌, ◌<◌, Bool, true, false, ◌&&◌, eqb, ltb, List, [], ◌∷◌, ◌++◌, length, get_or, take, drop, decimal, sym, refl, ap, ◌∙◌, subst, ⊎_elim, arith}
 use Rattle.std.specs.Str.Parse.{AllDigits, digits_value}
 use Rattle.std.specs.Int.{IsOutOfRange}
+use Rattle.std.specs.Str.{IsUtf8}
+use Rattle.std.proofs.lemmas.Str.{IsUtf8-from_ascii}
 use Rattle.std.specs.Char.{digit_value}
+use Rattle.std.specs.Float.Numeral.{digits_len}
 use Rattle.std.proofs.lemmas.Str.Parse.{IsNumeralModel, numerals_by_value, tells_digits, digit_from_value}
-use Rattle.std.proofs.lemmas.Fmt.{decimal-digits_value, digits_decimal, decimal_nonempty, first_decimal, decimal_digit}
-use Rattle.std.proofs.lemmas.Bool.{and_parts, ltb-true, eqb-true}
+use Rattle.std.proofs.lemmas.Fmt.{IsAscii-from_digits, decimal-digits_value, digits_decimal, decimal_nonempty, first_decimal, decimal_digit, digits_value-decimal}
 use Rattle.std.proofs.lemmas.Bool.Decides.{nat_tests}
-use Rattle.script.specs.Texts.{NoDigit, Front}
+use Rattle.std.proofs.lemmas.List.{take-append-drop}
+use Rattle.script.specs.Texts.{NoDigit, Parted, Front, NoFront}
 
 pub own : IsNumeralModel (AllDigits 10) (digits_value 10)
 own = numerals_by_value (AllDigits 10) tells_digits
@@ -28,22 +31,57 @@ cut (d ∷ ds) (x ∷ es) p q hd he hp hq e =
     let fronts = both.0 in
     (cc, both.1)
 
--- what number stands at the front
-pub taken : (text front rest : List ℕ) → text ≡ front ++ rest → AllDigits 10 front → NoDigit rest → 0 < length front → (get_or front 0 0 ≡ 48 → length front ≡ 1) → digits_value 10 front < 2 ^ 64 → Front text (digits_value 10 front) rest
-taken text front rest e ds stop some lead fits = record { is = rw (decimal-digits_value own front ds some lead fits) e; fits = fits; ends = stop }
+-- the digits that a text begins with
+front_digits : (n : ℕ) (text : List ℕ) → n ≡ digits_len text → AllDigits 10 (take n text)
+front_digits zero text e = tt
+front_digits (suc n) [] e = tt
+front_digits (suc n) (b ∷ bs) e =
+    let d : digit_value b < 10 = grind (arith, nat_tests) in
+    let m : n ≡ digits_len bs = grind (arith, nat_tests) in
+    (d, front_digits n bs m)
+
+after_digits : (n : ℕ) (text : List ℕ) → n ≡ digits_len text → NoDigit (drop n text)
+after_digits zero [] e = tt
+after_digits (suc n) [] e = tt
+after_digits zero (b ∷ bs) e = grind (arith, nat_tests)
+after_digits (suc n) (b ∷ bs) e = let m : n ≡ digits_len bs = grind (arith, nat_tests) in after_digits n bs m
+
+pub parted : (text front rest : List ℕ) (n : ℕ) → n ≡ digits_len text → front ≡ take n text → rest ≡ drop n text → Parted text front rest
+parted text front rest n e f r = record { is = rw (f, r) (sym (take-append-drop n text)); digits = rw f (front_digits n text e); ends = rw r (after_digits n text e) }
+
+pub digits_utf8 : (ds : List ℕ) → AllDigits 10 ds → IsUtf8 ds
+digits_utf8 ds h = IsUtf8-from_ascii ds (IsAscii-from_digits ds h)
 
 -- a number at the front is just the digits there
-pub same_front : (text front rest : List ℕ) → text ≡ front ++ rest → AllDigits 10 front → NoDigit rest → (n : ℕ) (more : List ℕ) → Front text n more → front ≡ decimal n
-same_front text front rest e ds stop n more f = (cut front (decimal n) rest more ds (digits_decimal own n f.fits) stop f.ends (sym e ∙ f.is)).0
+same_front : (text front rest : List ℕ) → Parted text front rest → (n : ℕ) (more : List ℕ) → Front text n more → front ≡ decimal n
+same_front text front rest p n more f = (cut front (decimal n) rest more p.digits (digits_decimal own n f.fits) p.ends f.ends (sym p.is ∙ f.is)).0
 
 -- no number is written with no digit, or with a zero in front
-pub decimal_form : (n : ℕ) → n < 2 ^ 64 → (0 < length (decimal n)) × (get_or (decimal n) 0 0 ≡ 48 → length (decimal n) ≡ 1)
+decimal_form : (n : ℕ) → n < 2 ^ 64 → (0 < length (decimal n)) × (get_or (decimal n) 0 0 ≡ 48 → length (decimal n) ≡ 1)
 decimal_form zero fits = (decimal_nonempty 0 fits, λ _. ap length (decimal_digit 0 (omega arith)))
 decimal_form (suc n) fits = (decimal_nonempty (suc n) fits, λ e. absurd (omega (arith, e, first_decimal (suc n) (omega arith) fits)))
 
--- a zero with more digits behind it, and none such
-pub zero_first : (ds : List ℕ) → true ≡ (ltb 1 (length ds) && eqb (get_or ds 0 0) 48) → (1 < length ds) × (get_or ds 0 0 ≡ 48)
-zero_first ds h = let p = and_parts _ _ (sym h) in (ltb-true 1 (length ds) p.0, eqb-true (get_or ds 0 0) 48 p.1)
+-- a zero with more digits behind it
+abbrev pub leads : List ℕ → Bool
+leads ds = ltb 1 (length ds) && eqb (get_or ds 0 0) 48
 
-pub zero_alone : (ds : List ℕ) → false ≡ (ltb 1 (length ds) && eqb (get_or ds 0 0) 48) → 0 < length ds → get_or ds 0 0 ≡ 48 → length ds ≡ 1
-zero_alone ds h some e = grind (arith, nat_tests)
+zero_alone : (ds : List ℕ) → false ≡ leads ds → get_or ds 0 0 ≡ 48 → 0 < length ds → length ds ≡ 1
+zero_alone ds h e some = grind (arith, nat_tests)
+
+-- what number stands at the front, and where there is none
+pub taken : (text front rest : List ℕ) (n : ℕ) → Parted text front rest → false ≡ leads front → ((0 < length front) × (digits_value 10 front < 2 ^ 64)) × (n ≡ digits_value 10 front) → Front text n rest
+taken text front rest n p lead v =
+    rw v.1 (record { is = rw (decimal-digits_value own front p.digits v.0.0 (λ z. zero_alone front lead z v.0.0) v.0.1) p.is; fits = v.0.1; ends = p.ends })
+
+pub zero_leads : (text front rest : List ℕ) → Parted text front rest → true ≡ leads front → NoFront text
+zero_leads text front rest p h n more f =
+    let e = same_front text front rest p n more f in
+    let long : 1 < length front = grind (arith, nat_tests) in
+    let first : get_or front 0 0 ≡ 48 = grind (arith, nat_tests) in
+    omega (arith, long, ap length e, (decimal_form n f.fits).1 (sym (ap (λ (d : List ℕ). get_or d 0 0) e) ∙ first))
+
+pub no_value : (text front rest : List ℕ) → Parted text front rest → ((0 < length front) × (digits_value 10 front < 2 ^ 64) → ⊥) → NoFront text
+no_value text front rest p none n more f =
+    let e = same_front text front rest p n more f in
+    let form = decimal_form n f.fits in
+    none (omega (arith, form.0, ap length e), omega (arith, ap (digits_value 10) e, digits_value-decimal own n f.fits))

@@ -1,18 +1,11 @@
 -- The lines that answers are written as, without their line feed.
-use Rattle.std.specs.Prelude.{ℕ, List, [], ◌∷◌, ◌++◌, None, codes, decimal}
-use Rattle.script.specs.declared.answer.Layer.{Layer}
-use Rattle.script.specs.declared.answer.Layer.TheVariants.{Script, Array, Lines, Home, System}
-use Rattle.script.specs.declared.answer.Refusal.{Refusal}
+use Rattle.std.specs.Prelude.{ℕ, List, [], ◌∷◌, ◌++◌, codes, decimal}
+use Rattle.refusals.specs.Refusals.{layer_text, by_layer}
+use Rattle.refusals.specs.declared.layer.Layer.TheVariants.{Script}
+use Rattle.refusals.specs.declared.refusal.Refusal.{Refusal}
 use Rattle.script.specs.declared.answer.Answer.{Answer}
 use Rattle.script.specs.declared.answer.Answer.TheVariants.{Done, Place, Ready, Drawn, Base, Refused}
 use Rattle.script.specs.Texts.{fields_text, option_text, refused_text}
-
-abbrev pub layer_text : Layer → List ℕ
-layer_text Script = codes "script"
-layer_text Array = codes "array"
-layer_text Lines = codes "lines"
-layer_text Home = codes "home"
-layer_text System = codes "system"
 
 abbrev pub refusal_text : Refusal → List ℕ
 refusal_text r = refused_text (decimal r.number) (layer_text r.layer) (option_text r.node) (option_text r.address)
@@ -30,4 +23,4 @@ answer_text (Refused r) = refusal_text r
 
 -- a refusal by the script itself names no node and no address
 abbrev pub of_script : ℕ → Refusal
-of_script n = record { number = n; layer = Script; node = None; address = None }
+of_script n = by_layer Script n

@@ -1,5 +1,6 @@
 -- What a reader has of an input that comes byte by byte.
 use Rattle.std.specs.Prelude.{◌≡◌, ℕ, Bool, true, false, cond, List, [], ◌∷◌, ◌++◌, Some, None, Option, ◌==◌}
+use Rattle.bounded.specs.declared.list.ArrayVec.{ArrayVec}
 use Rattle.bounded.specs.Listed.{listed}
 use Rattle.script.specs.declared.reader.Line.{Line}
 use Rattle.script.specs.declared.reader.Line.TheVariants.{Text, Overlong, Unended}
@@ -20,8 +21,13 @@ pub record Reading : Type 0 where
   pub line : InputLine
   pub ended : Bool
 
+-- the bytes that are kept of a line, which is too long where none are
+abbrev pub kept_line : {cap : ℕ} → Option (ArrayVec ℕ cap) → InputLine
+kept_line None = overlong
+kept_line (Some bytes) = text (listed bytes)
+
 abbrev pub reading : LineReader → Reading
-reading r = record { line = cond r.overlong overlong (text (listed r.bytes)); ended = r.ended }
+reading r = record { line = kept_line r.kept; ended = r.ended }
 
 abbrev pub begun : Reading
 begun = record { line = text []; ended = false }

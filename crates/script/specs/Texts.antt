@@ -1,6 +1,7 @@
 -- Numbers and fields as bytes. 44 is the comma, 45 the dash, 10 the line feed, 48 to 57 are the digits.
 use Rattle.std.specs.Prelude.{◌≡◌, ℕ, ◌^◌, ◌<◌, List, [], ◌∷◌, ◌++◌, map, length, Some, None, codes, decimal, Option}
 use Rattle.std.specs.Int.{IsOutOfRange}
+use Rattle.std.specs.Str.Parse.{AllDigits}
 
 -- each text, with a comma before it
 abbrev pub commas : List (List ℕ) → List ℕ
@@ -33,6 +34,12 @@ Small (x ∷ xs) = (x < 2 ^ 64) × Small xs
 abbrev pub NoDigit : List ℕ → Type 0
 NoDigit [] = Unit {0}
 NoDigit (b ∷ bs) = IsOutOfRange 48 57 b
+
+-- the digits that the text begins with, and what follows them
+pub record Parted (text front rest : List ℕ) : Type 0 where
+  pub is : text ≡ front ++ rest
+  pub digits : AllDigits 10 front
+  pub ends : NoDigit rest
 
 -- the text begins with the number n, of at most 64 bits, and then comes the rest
 pub record Front (text : List ℕ) (n : ℕ) (rest : List ℕ) : Type 0 where

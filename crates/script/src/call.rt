@@ -1,5 +1,5 @@
 // The calls of a script, and the lines that they are written as.
-#[derive(Clone, Copy)]
+#[derive(Clone, Copy, Debug, PartialEq, Eq)]
 pub enum Call {
     Start {
         nodes: u64,

@@ -1,10 +1,13 @@
 // A line that is being written.
-ghost use Rattle.std.specs.Prelude.{◌≡◌, ◌+◌, ◌<◌, ◌≤◌, [], ◌∷◌, ◌++◌, length, decimal, MatchResult};
+ghost use Rattle.std.specs.Prelude.{◌≡◌, ◌≤◌, [], ◌∷◌, ◌++◌, length, decimal, MatchResult};
+ghost use Rattle.script.specs.Answers.{refusal_text};
 ghost use Rattle.script.specs.Drafts.{written, Wrote, Printed, NoRoom};
-ghost use Rattle.script.specs.Texts.{fields_text, option_text, refused_text, ended, Small};
+ghost use Rattle.script.specs.Texts.{fields_text, option_text, ended, Small};
 
 use crate::fault::BufferShort;
 use bounded::ArrayVec;
+use itoa::Buffer;
+use refusals::Refusal;
 
 // The longest line is `ok` with five numbers of twenty digits: 108 bytes with its line feed.
 #[derive(Drop)]
@@ -13,7 +16,7 @@ pub(crate) struct Draft {
 }
 
 impl Draft {
-    pub(crate) fn new() -> Draft
+    fn new() -> Draft
         ensures { written result ≡ [] }
     {
         Draft {
@@ -21,47 +24,33 @@ impl Draft {
         }
     }
 
-    pub(crate) fn push(&mut self, b: u8)
-        requires { length (written self.old) < 108 }
+    // A byte that finds no room is dropped.
+    fn push(&mut self, b: u8)
         ensures { Wrote self.old (b ∷ []) self.new }
     {
         let _ = self.text.push(b);
     }
 
-    pub(crate) fn text(&mut self, text: &[u8])
-        requires { length (written self.old) + length text.now ≤ 108 }
+    #[tactic(auto, using(crate::proofs::Drafted::part_more))]
+    fn text(&mut self, text: &[u8])
         ensures { Wrote self.old text.now self.new }
     {
-        for b in text {
-            self.push(*b);
+        for &b in text {
+            self.push(b);
         }
-    }
-
-    // The digits of a number, of which there are at most 20.
-    fn digits(&mut self, n: u64)
-        requires { length (written self.old) + 20 ≤ 108 }
-        ensures wrote { Wrote self.old (decimal n) self.new }
-        ensures short { length (decimal n) ≤ 20 }
-    {
-        if n >= 10 {
-            self.digits(n / 10);
-        }
-        self.push(b'0' + (n % 10) as u8);
     }
 
     // A comma, and then the number.
-    pub(crate) fn number(&mut self, n: u64)
-        requires { length (written self.old) + 21 ≤ 108 }
+    fn number(&mut self, n: u64)
         ensures wrote { Wrote self.old (44 ∷ decimal n) self.new }
         ensures short { length (decimal n) ≤ 20 }
     {
         self.push(b',');
-        self.digits(n);
+        self.text(Buffer::new().format(n).as_bytes());
     }
 
     // A comma, and then the number or a dash.
-    pub(crate) fn optional(&mut self, n: Option<u64>)
-        requires { length (written self.old) + 21 ≤ 108 }
+    fn optional(&mut self, n: Option<u64>)
         ensures wrote { Wrote self.old (44 ∷ option_text n) self.new }
         ensures short { length (option_text n) ≤ 20 }
     {
@@ -79,30 +68,24 @@ impl Draft {
     {
         let mut line = Draft::new();
         line.text(word);
-        for n in numbers {
-            line.number(*n);
+        for &n in numbers {
+            line.number(n);
         }
         line.push(b'\n');
         line
     }
 
     // The line of a refusal, with its line feed.
-    pub(crate) fn refused(
-        number: u64,
-        layer: &[u8],
-        node: Option<u64>,
-        address: Option<u64>,
-    ) -> Draft
-        requires { length layer.now ≤ 6 }
-        ensures { written result ≡ ended (refused_text (decimal number) layer.now (option_text node) (option_text address)) }
+    pub(crate) fn refused(refusal: Refusal) -> Draft
+        ensures { written result ≡ ended (refusal_text refusal) }
     {
         let mut line = Draft::new();
         line.text(b"no");
-        line.number(number);
+        line.number(refusal.number);
         line.push(b',');
-        line.text(layer);
-        line.optional(node);
-        line.optional(address);
+        line.text(refusal.layer.name());
+        line.optional(refusal.node);
+        line.optional(refusal.address);
         line.push(b'\n');
         line
     }
@@ -116,7 +99,7 @@ impl Draft {
         if buffer.len() < n {
             return Err(BufferShort);
         }
-        buffer[0..n].copy_from_slice(line);
+        buffer[..n].copy_from_slice(line);
         Ok(n)
     }
 }

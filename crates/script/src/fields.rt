@@ -22,13 +22,11 @@ pub(crate) fn fields<const N: usize>(text: &[u8]) -> Result<[u64; N], NotALine>
 {
     let mut values = [0; N];
     let mut rest = text;
-    for i in 0..N {
+    for (i, value) in values.iter_mut().enumerate() {
         if i > 0 {
             rest = after_comma(rest)?;
         }
-        let (value, after) = number(rest)?;
-        values[i] = value;
-        rest = after;
+        (*value, rest) = number(rest)?;
     }
     match rest {
         [] => Ok(values),

@@ -11,8 +11,9 @@ mod parse;
 mod print;
 mod reader;
 
-pub use answer::{Answer, Layer, Refusal};
+pub use answer::Answer;
 pub use call::Call;
 pub use fault::{BufferShort, NotALine};
 pub use print::{print_answer, print_call};
 pub use reader::{Line, LineReader};
+pub use refusals::{Layer, Refusal};

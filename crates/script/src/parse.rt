@@ -1,5 +1,5 @@
 // A line of a script as a call.
-ghost use Rattle.std.specs.Prelude.{◌≡◌, ◌^◌, ◌<◌, ◌≤◌, true, length, is_err, MatchResult, ◌≢◌, slice_index};
+ghost use Rattle.std.specs.Prelude.{◌≡◌, ◌<◌, true, length, is_err, MatchResult, ◌≢◌, slice_index};
 ghost use Rattle.script.specs.Calls.{Writes, NoCall, ReadsBack, Opens, Parts, NoParts};
 
 use crate::call::Call;
@@ -11,19 +11,8 @@ fn opening(line: &[u8]) -> Result<(char, &[u8]), NotALine>
     ensures { MatchResult result (λ p. Opens line.now p.0 p.1.now) (λ _. (1 < length line.now → slice_index line.now 1 ≢ 44)) }
 {
     match line {
-        [letter, b',', rest @ ..] => Ok((*letter as char, rest)),
+        [letter, b',', rest @ ..] => Ok((char::from(*letter), rest)),
         _ => Err(NotALine),
-    }
-}
-
-// The same number, where it has at most 32 bits.
-fn narrow(n: u64) -> Result<u32, NotALine>
-    ensures { MatchResult result (λ m. (m ≡ n) × (m < 2 ^ 32)) (λ _. 2 ^ 32 ≤ n) }
-{
-    if n <= u32::MAX as u64 {
-        Ok(n as u32)
-    } else {
-        Err(NotALine)
     }
 }
 
@@ -44,13 +33,11 @@ fn read(text: &[u8]) -> Result<Call, NotALine>
     ensures { MatchResult result (λ c. Parts 82 text.now c) (λ _. NoParts 82 text.now) }
 {
     let [node, address, frame, instruction] = fields::<4>(text)?;
-    let frame = narrow(frame)?;
-    let instruction = narrow(instruction)?;
     Ok(Call::Read {
         node,
         address,
-        frame,
-        instruction,
+        frame: u32::try_from(frame).map_err(|_| NotALine)?,
+        instruction: u32::try_from(instruction).map_err(|_| NotALine)?,
     })
 }
 
@@ -103,7 +90,7 @@ fn call_of(letter: char, text: &[u8]) -> Result<Call, NotALine>
 }
 
 impl Call {
-    // The call that a line writes; the line stands here without its line feed.
+    // The call that a line writes; the line stands here without its line feed. It is bytes, and `FromStr` reads a `str`.
     pub fn parse(line: &[u8]) -> Result<Call, NotALine>
         ensures writes { MatchResult result (λ c. Writes c line.now) (λ _. NoCall line.now) }
         ensures back { ReadsBack line.now result }

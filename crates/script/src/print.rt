@@ -1,21 +1,15 @@
 // Calls and answers as lines in a caller's buffer.
-ghost use Rattle.std.specs.Prelude.{◌≡◌, ◌-◌, ◌^◌, ◌<◌, take, IfOk, MatchResult};
-ghost use Rattle.script.specs.Answers.{answer_text, refusal_text};
+// These are no `Display`: that says nothing of a sink that runs full, and here a short buffer has its own answer.
+ghost use Rattle.std.specs.Prelude.{◌≡◌, ◌-◌, take, IfOk, MatchResult};
+ghost use Rattle.script.specs.Answers.{answer_text};
 ghost use Rattle.script.specs.Calls.{call_text, Fits, Writes, Alone};
 ghost use Rattle.script.specs.Drafts.{written, Printed, NoRoom};
 ghost use Rattle.script.specs.Texts.{ended};
 
-use crate::answer::{Answer, Refusal};
+use crate::answer::Answer;
 use crate::call::Call;
 use crate::draft::Draft;
 use crate::fault::BufferShort;
-
-// The same number, which has at most 32 bits.
-fn wide(n: u32) -> u64
-    ensures { (result ≡ n) × (n < 2 ^ 32) }
-{
-    n as u64
-}
 
 fn call_line(call: Call) -> Draft
     ensures line { written result ≡ ended (call_text call) }
@@ -32,7 +26,10 @@ fn call_line(call: Call) -> Draft
             address,
             frame,
             instruction,
-        } => Draft::of(b"R", &[node, address, wide(frame), wide(instruction)]),
+        } => Draft::of(
+            b"R",
+            &[node, address, u64::from(frame), u64::from(instruction)],
+        ),
         Call::Write {
             node,
             address,
@@ -45,18 +42,6 @@ fn call_line(call: Call) -> Draft
         Call::PutBack { node, place } => Draft::of(b"P", &[node, place]),
         Call::Create { kind, length } => Draft::of(b"C", &[kind, length]),
     }
-}
-
-fn refusal_line(refusal: Refusal) -> Draft
-    ensures { written result ≡ ended (refusal_text refusal) }
-{
-    let Refusal {
-        number,
-        layer,
-        node,
-        address,
-    } = refusal;
-    Draft::refused(number, layer.name(), node, address)
 }
 
 fn answer_line(answer: Answer) -> Draft
@@ -74,10 +59,16 @@ fn answer_line(answer: Answer) -> Draft
             instruction,
         } => Draft::of(
             b"ok",
-            &[place, address, word, wide(frame), wide(instruction)],
+            &[
+                place,
+                address,
+                word,
+                u64::from(frame),
+                u64::from(instruction),
+            ],
         ),
         Answer::Base(base) => Draft::of(b"ok", &[base]),
-        Answer::Refused(refusal) => refusal_line(refusal),
+        Answer::Refused(refusal) => Draft::refused(refusal),
     }
 }
 

@@ -8,18 +8,18 @@ use crate::fault::NotALine;
 use bounded::ArrayVec;
 
 // A line of an input, without its line feed.
-#[derive(Clone, Copy)]
+#[derive(Clone, Copy, Debug, PartialEq, Eq)]
 pub enum Line<'a> {
     Text(&'a [u8]),
     Overlong,
     Unended,
 }
 
-// What is read of a line, of which at most 96 bytes are kept.
+// What is read of a line: its bytes, while they are at most 96, and whether its line feed came.
+// The flag is no state with a value: the line is read after its line feed as before it.
 #[derive(Drop)]
 pub struct LineReader {
-    bytes: ArrayVec<u8, 96>,
-    overlong: bool,
+    kept: Option<ArrayVec<u8, 96>>,
     ended: bool,
 }
 
@@ -30,21 +30,20 @@ impl Line<'_> {
     {
         match self {
             Line::Text(text) => Call::parse(text),
-            Line::Overlong => Err(NotALine),
-            Line::Unended => Err(NotALine),
+            Line::Overlong | Line::Unended => Err(NotALine),
         }
     }
 }
 
 impl LineReader {
+    #[tactic(auto, using(crate::proofs::Feeding::reads_all, crate::proofs::Cutting::cut_at_feeds))]
     pub fn new() -> LineReader
         ensures begun { reading result ≡ begun }
         ensures all { ReadsAll }
         ensures cut { CutAtFeeds }
     {
         LineReader {
-            bytes: ArrayVec::new(0),
-            overlong: false,
+            kept: Some(ArrayVec::new(0)),
             ended: false,
         }
     }
@@ -54,9 +53,7 @@ impl LineReader {
         ensures { reading self.new ≡ opened (reading self.old) }
     {
         if self.ended {
-            self.bytes = ArrayVec::new(0);
-            self.overlong = false;
-            self.ended = false;
+            *self = LineReader::new();
         }
     }
 
@@ -70,8 +67,10 @@ impl LineReader {
             self.ended = true;
             return true;
         }
-        if self.bytes.push(byte).is_err() {
-            self.overlong = true;
+        if let Some(bytes) = &mut self.kept
+            && bytes.push(byte).is_err()
+        {
+            self.kept = None;
         }
         false
     }
@@ -80,10 +79,9 @@ impl LineReader {
     pub fn line(&self) -> Line<'_>
         ensures { told result ≡ (reading self.now).line }
     {
-        if self.overlong {
-            Line::Overlong
-        } else {
-            Line::Text(self.bytes.as_slice())
+        match &self.kept {
+            Some(bytes) => Line::Text(bytes.as_slice()),
+            None => Line::Overlong,
         }
     }
 
@@ -91,13 +89,10 @@ impl LineReader {
     pub fn end(&self) -> Option<Line<'static>>
         ensures { told_end result ≡ at_end (reading self.now) }
     {
-        if self.ended {
-            return None;
-        }
-        if self.overlong || self.bytes.len() > 0 {
-            Some(Line::Unended)
-        } else {
-            None
+        match &self.kept {
+            _ if self.ended => None,
+            Some(bytes) if bytes.len() == 0 => None,
+            _ => Some(Line::Unended),
         }
     }
 }

@@ -40,6 +40,29 @@ marks (delivered k c) n p b = b
 marks (created x y z) n p b = b
 marks (refused c why) n p b = b
 
+-- a call that draws, finishes and puts back nothing marks nothing
+abbrev pub Keeping : Call → Type 0
+Keeping (start n l c) = Unit {0}
+Keeping (read n q) = Unit {0}
+Keeping (write n a v) = Unit {0}
+Keeping (act n k) = Unit {0}
+Keeping (deliver k) = Unit {0}
+Keeping (draw n) = ⊥
+Keeping (finish n p) = ⊥
+Keeping (put_back n p) = ⊥
+Keeping (create k size) = Unit {0}
+
+pub silent : (m : Moment) (c : Call) (got : Option Plain) → Keeping c → (n p : ℕ) (b : Bool) → marks (does m c got).event n p b ≡ b
+silent m (start _ _ _) got k n p b = grind arith
+silent m (read _ _) got k n p b = grind arith
+silent m (write _ _ _) got k n p b = grind arith
+silent m (act _ _) got k n p b = grind arith
+silent m (deliver _) got k n p b = grind arith
+silent m (draw _) got k n p b = absurd k
+silent m (finish _ _) got k n p b = absurd k
+silent m (put_back _ _) got k n p b = absurd k
+silent m (create _ _) got k n p b = grind arith
+
 pub record Shows (m : Moment) (o : Outcome) : Type 0 where
   pub drawn : (n p : ℕ) → drawn_on o.after n p ≡ marks o.event n p (drawn_on m n p)
   pub within : AtWork o.after
@@ -97,7 +120,7 @@ module _ (m : Moment) (facts : (n : ℕ) → Facts (board_at m n)) (w : AtWork m
 
   fresh_shows : (n l c : ℕ) → is_started m ≡ false → Shows m (takes (started n l c) (fresh m n l c))
   fresh_shows n l c no_one =
-      let none : m.nodes ≡ 0 = elim (cases_eq m.nodes 0) [ inl z ↦ z | inr ne ↦ absurd (false≢true (sym no_one ∙ at_work m ne)) ] in
+      let none : m.nodes ≡ 0 = elim (cases_eq m.nodes 0) [ inl z ↦ z | inr ne ↦ absurd (false≢true (sym no_one ∙ at_work m (omega (arith, ne)))) ] in
       let all : (j p : ℕ) → drawn_on (fresh m n l c) j p ≡ false
       = λ j p. of_replicate (λ t. drawn_in t p ≡ false) 16 (board.start l) (board.start 1) j (start_undrawn l p) (start_undrawn 1 p) in
       record { drawn = λ j p. all j p ∙ sym (none_before none j p); within = λ j p y. absurd (false≢true (sym (all j p) ∙ y)) }

@@ -14,7 +14,6 @@ use Rattle.protocol.specs.Moments.{Moment, is_started, Call, finish, put_back, D
 use Rattle.protocol.specs.Steps.{Outcome, refuse, does, Asks, Reached, new, then}
 use Rattle.system.specs.declared.fault.SystemFault.{SystemFault}
 use Rattle.system.specs.declared.system.System.{System}
-use Rattle.system.specs.Faults.{refusal_of}
 use Rattle.system.specs.Parked.{is_parked, parking}
 use Rattle.system.specs.Systems.{moment, answered}
 use Rattle.system.specs.Through.{Called, Takes}
@@ -22,7 +21,7 @@ use Rattle.system.proofs.Steps.{at_work, quiet}
 use Rattle.session.specs.Drawn.{drawn_at}
 use Rattle.session.proofs.Lists.{at_place, of_replicate}
 use Rattle.session.proofs.Boards.{start_undrawn, drawn_in}
-use Rattle.session.proofs.Drawn.{drawn_on, AtWork, marks, marks_deed, Shows, does_shows}
+use Rattle.session.proofs.Drawn.{drawn_on, AtWork, marks, marks_deed, Keeping, silent, Shows, does_shows}
 use Rattle.session.proofs.Parked.{parked_at, unparked}
 
 all_facts : (bs : List Board) (n : ℕ) → Facts (get_or (map tables bs) n (board.start 1))
@@ -50,11 +49,17 @@ module _ {N : Type 0} (net : Ghosts N) (s s' : System N) (c : Call) (e : Event) 
   parks_next : (rows rows' : List (List Bool)) → ((n p : ℕ) → is_parked rows n p ≡ drawn_at s.boards n p) → ((n p : ℕ) → is_parked rows' n p ≡ marks e n p (is_parked rows n p)) → Parks s' rows'
   parks_next rows rows' was now = record { parked = λ n p. now n p ∙ ap (marks e n p) (was n p) ∙ sym (drawn_next n p); at_work = work_next }
 
+-- a call that is refused
+pub parks_refused : {N : Type 0} {net : Ghosts N} (s s' : System N) (rows : List (List Bool)) {c d : Call} {why : Refusal} → ((n p : ℕ) → is_parked rows n p ≡ drawn_at s.boards n p)
+    → ((n p : ℕ) → drawn_at s.boards n p ≡ true → n < s.nodes) → Called net s c (refused d why) s' → Parks s' rows
+parks_refused {net = net} s s' rows {c} {d} {why} was w done = parks_next net s s' c (refused d why) w done rows rows was (λ n p. refl)
+
 -- a call that draws, finishes and puts back nothing
-pub parks_kept : {N : Type 0} (net : Ghosts N) (s s' : System N) (c : Call) {X : Type 0} (taken : X → Event) (r : Result X SystemFault) (rows : List (List Bool)) → ((x : X) (n p : ℕ) (b : Bool) → marks (taken x) n p b ≡ b)
-    → ((n p : ℕ) → is_parked rows n p ≡ drawn_at s.boards n p) → ((n p : ℕ) → drawn_at s.boards n p ≡ true → n < s.nodes) → Called net s c (answered c taken r) s' → Parks s' rows
-parks_kept net s s' c taken (Ok x) rows quiet was w done = parks_next net s s' c (taken x) w done rows rows was (λ n p. sym (quiet x n p (is_parked rows n p)))
-parks_kept net s s' c taken (Err fault) rows quiet was w done = parks_next net s s' c (refused c (refusal_of fault)) w done rows rows was (λ n p. refl)
+pub parks_kept : {N : Type 0} {net : Ghosts N} (s s' : System N) (rows : List (List Bool)) {c : Call} {e : Event} → Keeping c → ((n p : ℕ) → is_parked rows n p ≡ drawn_at s.boards n p)
+    → ((n p : ℕ) → drawn_at s.boards n p ≡ true → n < s.nodes) → Called net s c e s' → Parks s' rows
+parks_kept {net = net} s s' rows {c} {e} keeping was w done =
+    let same : (n p : ℕ) (b : Bool) → marks e n p b ≡ b = λ n p b. ap (λ x. marks x n p b) done.made.says ∙ silent (moment net s) c (option_map plain done.made.got) keeping n p b in
+    parks_next net s s' c e w done rows rows was (λ n p. sym (same n p (is_parked rows n p)))
 
 -- a draw, whose place is parked
 pub parks_drawn : {N : Type 0} (net : Ghosts N) (s s' : System N) (c : Call) (n k q p : ℕ) (read : board.Read) (word : ℕ) (rows rows' : List (List Bool)) → k ≡ n → q ≡ p
@@ -67,7 +72,7 @@ parks_drawn net s s' c n k q p read word rows rows' kn qp was w done are there =
 -- what a call at a node does, if the node is at work
 at_one : (m : Moment) (n : ℕ) (x y z : Outcome) → n < m.nodes → cond (is_started m) (cond (ltb n m.nodes) x y) z ≡ x
 at_one m n x y z lt =
-    cond-true (is_started m) (cond (ltb n m.nodes) x y) z (at_work m (λ none. let f : ⊥ = omega (arith, lt, none) in f)) ∙ cond-true (ltb n m.nodes) x y (lt-ltb n m.nodes lt)
+    cond-true (is_started m) (cond (ltb n m.nodes) x y) z (at_work m (omega arith)) ∙ cond-true (ltb n m.nodes) x y (lt-ltb n m.nodes lt)
 
 -- a drawn place is finished, or put back
 abbrev Taken : (ℕ → ℕ → Call) → (ℕ → Deed) → Type 0

@@ -1,5 +1,6 @@
 -- The laws, through any lines.
-use Rattle.std.proofs.Common.{◌≡◌, List, [], ◌∷◌, Err, Result, sym, ap, ◌∙◌, subst}
+use Rattle.std.proofs.Common.{◌≡◌, List, [], ◌∷◌, Ok, Err, Result, sym, ap, ◌∙◌, subst}
+use Rattle.std.specs.Result.{MatchResult}
 use Rattle.network.specs.declared.network.Network.{Ghosts}
 use Rattle.protocol.specs.Moments.{Event}
 use Rattle.protocol.specs.Steps.{Reached}
@@ -22,6 +23,11 @@ pub passed_on : {N : Type 0} (net : Ghosts N) (s s' : Session N) (line : InputLi
     → WritesLine c line → Answered net s.system (call_of c) (Refused (scripted_refusal (by_system fault))) s'.system → Answers net s line (whole r) s'
 passed_on net s s' line c fault r p writes a =
     made c writes (subst (λ x. Answered net s.system (call_of c) x s'.system) (sym (ap whole p.1 ∙ ap (λ f. Refused (scripted_refusal f)) p.2)) a)
+
+-- an answer, or the refusal that a fault is told as
+pub whole_is : (r : Result Answer SessionFault) (x : Answer) (Q : SessionFault → Type 0) → MatchResult r (λ a. x ≡ a) Q → ((f : SessionFault) → Q f → x ≡ Refused (scripted_refusal f)) → whole r ≡ x
+whole_is (Ok a) x Q is of_fault = sym is
+whole_is (Err f) x Q is of_fault = sym (of_fault f is)
 
 module _ {N : Type 0} (net : Ghosts N) (s : Session N) (first : Reached [] (moment net s.system)) where
   one : {s₁ s₂ : Session N} {line : InputLine} {answer : Answer} → Answers net s₁ line answer s₂ → (h : List Event) → Reached h (moment net s₁.system) → (h' : List Event) × Reached h' (moment net s₂.system)

@@ -6,6 +6,7 @@ use Rattle.protocol.specs.Moments.{Deed, nothing, accepted, wrote, acted, drew, 
 use Rattle.protocol.specs.Steps.{Reached}
 use Rattle.protocol.specs.Laws.{Laws}
 use Rattle.system.specs.declared.system.System.{System}
+use Rattle.system.specs.Refusals.{scripted}
 use Rattle.system.specs.Systems.{moment, asked}
 use Rattle.system.specs.Through.{Called}
 use Rattle.script.specs.declared.answer.Answer.{Answer}
@@ -15,7 +16,6 @@ use Rattle.script.specs.declared.call.Call.TheVariants.{Start, Read, Write, Act,
 use Rattle.script.specs.Answers.{of_script}
 use Rattle.script.specs.Inputs.{InputLine, WritesLine, NoCallLine}
 use Rattle.session.specs.declared.session.Session.{Session}
-use Rattle.session.specs.Faults.{scripted}
 
 -- the call on the memory
 abbrev pub call_of : script.Call → Call

@@ -1,12 +1,14 @@
 // Why a line is refused. What the memory says is carried whole.
 ghost use Rattle.std.specs.Prelude.{◌≡◌};
+ghost use Rattle.session.specs.Faults.{scripted_refusal};
 ghost use Rattle.session.specs.declared.fault.SessionFault.TheVariants.{NotALine as no_line, System as by_system, Array as by_array};
 
 use array::ArrayFault;
+use refusals::Refusal;
 use script::NotALine;
 use system::SystemFault;
 
-#[derive(Clone, Copy)]
+#[derive(Clone, Copy, PartialEq, Eq)]
 pub enum SessionFault {
     NotALine,
     System(SystemFault),
@@ -38,4 +40,14 @@ impl From<ArrayFault> for SessionFault {
     }
 }
 
-mod refusal;
+impl From<SessionFault> for Refusal {
+    ghost from_gives = { λ fault refusal. refusal ≡ scripted_refusal fault };
+
+    fn from(fault: SessionFault) -> Refusal {
+        match fault {
+            SessionFault::NotALine => Refusal::from(NotALine),
+            SessionFault::System(fault) => Refusal::from(fault),
+            SessionFault::Array(fault) => Refusal::from(fault),
+        }
+    }
+}

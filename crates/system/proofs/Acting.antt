@@ -1,5 +1,5 @@
 -- A node acts: its board decides by the load, and what goes out is offered to the network.
-use Rattle.std.proofs.Common.{◌≡◌, ℕ, ◌+◌, ◌-◌, ◌/◌, ◌%◌, ◌≤◌, min, cond, leb, List, [], ◌∷◌, map, length, set, Some, None, Ok, Err, sum_by, Option, Result, sym, refl, ap, ◌∙◌, subst, inl, inr, arith}
+use Rattle.std.proofs.Common.{◌≡◌, ℕ, ◌+◌, ◌-◌, ◌/◌, ◌%◌, ◌≤◌, min, cond, leb, List, [], ◌∷◌, map, length, set, Some, None, Ok, Err, sum_by, IsErrAnd, MatchResult, Option, Result, sym, refl, ap, ◌∙◌, subst, inl, inr, arith}
 use Rattle.std.specs.List.{slice_get}
 use Rattle.std.specs.Option.{option_map}
 use Rattle.std.specs.Result.{result_map_both as both}
@@ -21,7 +21,7 @@ use Rattle.system.specs.declared.fault.SystemFault.{SystemFault}
 use Rattle.system.specs.Faults.{refusal_of, whole_fault}
 use Rattle.system.specs.Systems.{answered}
 use Rattle.system.specs.Through.{Offers, Done}
-use Rattle.system.proofs.Steps.{at_work, done, quiet_board, with_boards}
+use Rattle.system.proofs.Steps.{at_work, done, told, quiet_board, with_boards}
 
 -- beyond the limit every load is the same to a board
 module _ (n : ℕ) (t : Tables) (k l l' limit : ℕ) (full : limit ≤ l) (full' : limit ≤ l') where
@@ -73,24 +73,27 @@ refuses_so n (act_fault.NetworkFull a) = refl
 refuses_so n (act_fault.Lines (EveryLineWaits k a)) = refl
 refuses_so n (act_fault.Lines (WrittenTwice k a)) = refl
 
+-- the board's answer, with the number of its node
+abbrev pub Tells : ℕ → Result Acted ActFault → Result Acted SystemFault → Type 0
+Tells n answer whole = MatchResult answer (λ x. whole ≡ Ok x) (λ e. IsErrAnd whole (λ y. y ≡ whole_fault n e))
+
 module _ (m : Moment) (n k : ℕ) (s : board.Step) where
-  -- the board's answer, as the call's outcome
-  acts_ok : (answer : Result Acted ActFault) (d : Acted) → both plain_acted plain_refusal answer ≡ s.answer → both (λ x. x) (whole_fault n) answer ≡ Ok d
+  -- it is the call's outcome
+  acts_ok : (answer : Result Acted ActFault) (d : Acted) → both plain_acted plain_refusal answer ≡ s.answer → Tells n answer (Ok d)
       → acts m n k s.answer s.after ≡ record { event = at n (acted k d.readied); after = with_board m n s.after; sent = goes_out m n (option_map plain_outgoing d.sends) }
   acts_ok (Ok x) d said is =
       let same : x ≡ d = cc in
       ap (λ r. acts m n k r s.after) (sym said)
       ∙ ap (λ y. record { event = at n (acted k y.readied); after = with_board m n s.after; sent = goes_out m n (option_map plain_outgoing y.sends) }) same
-  acts_ok (Err e) d said is = absurd (let z : ◌≡◌ {A = ℕ} 0 1 = cc in let f : ⊥ = omega arith in f)
+  acts_ok (Err e) d said is = absurd is
 
-  acts_err : (answer : Result Acted ActFault) (fault : SystemFault) → both plain_acted plain_refusal answer ≡ s.answer → both (λ x. x) (whole_fault n) answer ≡ Err fault
+  acts_err : (answer : Result Acted ActFault) (fault : SystemFault) → both plain_acted plain_refusal answer ≡ s.answer → Tells n answer (Err fault)
       → acts m n k s.answer s.after ≡ takes (refused (act n k) (refusal_of fault)) (with_board m n s.after)
-  acts_err (Ok x) fault said is = absurd (let z : ◌≡◌ {A = ℕ} 0 1 = cc in let f : ⊥ = omega arith in f)
+  acts_err (Ok x) fault said is = cc
   acts_err (Err e) fault said is =
-      let same : whole_fault n e ≡ fault = cc in
-      ap (λ r. acts m n k r s.after) (sym said) ∙ ap (λ w. takes (refused (act n k) w) (with_board m n s.after)) (refuses_so n e ∙ ap refusal_of same)
+      ap (λ r. acts m n k r s.after) (sym said) ∙ ap (λ w. takes (refused (act n k) w) (with_board m n s.after)) (refuses_so n e ∙ ap refusal_of (sym is))
 
-abbrev pub left_as : Moment → List Tables → ℕ → List Plain → Moment
+abbrev left_as : Moment → List Tables → ℕ → List Plain → Moment
 left_as m bs limit bag = record { nodes = m.nodes; cells = m.cells; boards = bs; memory = m.memory; end = m.end; limit = limit; bag = bag }
 
 module _ {N : Type 0} (net : Ghosts N) (at_first : N) (m : Moment) (bag : m.bag ≡ map plain (net.bag at_first)) (small : m.limit ≤ 1024) (n k : ℕ) (works : 1 ≤ m.nodes)
@@ -98,7 +101,7 @@ module _ {N : Type 0} (net : Ghosts N) (at_first : N) (m : Moment) (bag : m.bag 
     (said : both plain_acted plain_refusal answer ≡ (board.acted n (board_at m n) k l m.limit).answer)
     (boards : bs ≡ set m.boards n (board.acted n (board_at m n) k l m.limit).after) where
   loads : load m ≡ length (net.bag at_first) + sum_by waiters m.memory
-  loads = ap (λ xs. length xs + sum_by waiters m.memory) (cond-true (is_started m) m.bag [] (at_work m (λ z. omega (arith, works, z))) ∙ bag) ∙ ap (λ c. c + sum_by waiters m.memory) (length-map (net.bag at_first) plain)
+  loads = ap (λ xs. length xs + sum_by waiters m.memory) (cond-true (is_started m) m.bag [] (at_work m works) ∙ bag) ∙ ap (λ c. c + sum_by waiters m.memory) (length-map (net.bag at_first) plain)
 
   same : board.acted n (board_at m n) k (load m) m.limit ≡ board.acted n (board_at m n) k l m.limit
   same =
@@ -108,7 +111,7 @@ module _ {N : Type 0} (net : Ghosts N) (at_first : N) (m : Moment) (bag : m.bag 
   is : does m (act n k) None ≡ acts m n k (board.acted n (board_at m n) k l m.limit).answer (board.acted n (board_at m n) k l m.limit).after
   is = rule _ ∙ ap (λ s. acts m n k s.answer s.after) same
 
-  pub acts_on : (d : Acted) (n' : N) → both (λ x. x) (whole_fault n) answer ≡ Ok d → Offers net at_first (goes_out m n (option_map plain_outgoing d.sends)) n'
+  pub acts_on : (d : Acted) (n' : N) → Tells n answer (Ok d) → Offers net at_first (goes_out m n (option_map plain_outgoing d.sends)) n'
       → Offered m.limit (map plain (net.bag at_first)) (goes_out m n (option_map plain_outgoing d.sends)) (map plain (net.bag n')) → net.bound n' ≡ m.limit
       → Done net at_first m (act n k) (at n (acted k d.readied)) n' (left_as m bs (net.bound n') (map plain (net.bag n')))
   acts_on d n' ok offers offered bound =
@@ -123,9 +126,9 @@ module _ {N : Type 0} (net : Ghosts N) (at_first : N) (m : Moment) (bag : m.bag 
         leaves = (λ i. left_as m (boards i) (bound i) (map plain (net.bag n'))) ∙ sym (ap (λ o. with_bag o.after (map plain (net.bag n'))) all);
       }) (refl, sym bag) (subst (λ ms. Offered m.limit (map plain (net.bag at_first)) ms (map plain (net.bag n'))) sent offered)
 
-  pub acts_not : (fault : SystemFault) (r : Result ℕ SystemFault) → both (λ x. x) (whole_fault n) answer ≡ Err fault → (y : SystemFault) × (r ≡ Err y) × (y ≡ fault)
+  pub acts_not : (fault : SystemFault) (r : Result ℕ SystemFault) → Tells n answer (Err fault) → IsErrAnd r (λ y. y ≡ fault)
       → Done net at_first m (act n k) (answered (act n k) (λ count. at n (acted k count)) r) at_first (with_boards m bs)
   acts_not fault r err p =
       quiet_board net (act n k) bs n (board.acted n (board_at m n) k l m.limit).after (refl, refl) (refl, sym bag) boards
       (is ∙ acts_err m n k (board.acted n (board_at m n) k l m.limit) answer fault said err
-      ∙ ap (λ e. takes e (with_board m n (board.acted n (board_at m n) k l m.limit).after)) (sym (ap (answered (act n k) (λ count. at n (acted k count))) p.1 ∙ ap (λ f. refused (act n k) (refusal_of f)) p.2))) bag
+      ∙ ap (λ e. takes e (with_board m n (board.acted n (board_at m n) k l m.limit).after)) (told (act n k) (λ count. at n (acted k count)) fault r p)) bag

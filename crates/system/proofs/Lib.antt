@@ -1,11 +1,9 @@
 pub mod Waiting
 pub mod Steps
+pub mod Boards
 pub mod Start
 pub mod Parked
-pub mod Lists
 pub mod Draws
-pub mod Numbers
-pub mod Arrays
 pub mod Offers
 pub mod Delivery
 pub mod Acting

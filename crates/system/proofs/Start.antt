@@ -1,5 +1,5 @@
 -- The first moment, and the start.
-use Rattle.std.proofs.Common.{◌≡◌, ℕ, zero, suc, ◌≤◌, Bool, true, false, cond, ◌||◌, ltb, leb, List, [], ◌∷◌, map, length, replicate, is_some, Some, None, Option, sym, refl, ap, ◌∙◌, subst, arith}
+use Rattle.std.proofs.Common.{◌≡◌, ℕ, zero, suc, ◌≤◌, Bool, true, false, cond, ◌||◌, ltb, leb, List, [], ◌∷◌, map, length, replicate, Some, None, Option, sym, refl, ap, ◌∙◌, subst, arith}
 use Rattle.std.specs.Option.{option_map}
 use Rattle.std.proofs.lemmas.List.{length-map}
 use Rattle.std.proofs.lemmas.Bool.{cond-true, cond-false, le-leb}
@@ -23,15 +23,11 @@ map-replicate f zero x y e = refl
 map-replicate f (suc k) x y e = λ i. e i ∷ map-replicate f k x y e i
 
 -- what a board of so many lines is, where it may have them
-abbrev pub offered : ℕ → Option Tables
+abbrev offered : ℕ → Option Tables
 offered l = cond (leb 1 l) (cond (leb l 16) (Some (board.start l)) None) None
 
-pub made : (l : ℕ) → 1 ≤ l → l ≤ 16 → offered l ≡ Some (board.start l)
+made : (l : ℕ) → 1 ≤ l → l ≤ 16 → offered l ≡ Some (board.start l)
 made l some few = cond-true (leb 1 l) _ _ (le-leb 1 l some) ∙ cond-true (leb l 16) _ _ (le-leb l 16 few)
-
-pub is_made : (l : ℕ) (o : Option Board) → 1 ≤ l → l ≤ 16 → option_map tables o ≡ offered l → is_some o ≡ true
-is_made l None some few e = absurd (let z : ◌≡◌ {A = Option Tables} None (Some (board.start l)) = e ∙ made l some few in let y : ◌≡◌ {A = ℕ} 0 1 = cc in let f : ⊥ = omega arith in f)
-is_made l (Some b) some few e = refl
 
 pub made_so : (l : ℕ) (o : Option Board) (b : Board) → 1 ≤ l → l ≤ 16 → option_map tables o ≡ offered l → o ≡ Some b → tables b ≡ board.start l
 made_so l o b some few e is = let both : Some (tables b) ≡ Some (board.start l) = sym (ap (option_map tables) is) ∙ e ∙ made l some few in cc both
@@ -42,7 +38,7 @@ first limit bag bs cs e f =
     let P : Moment → Type 0 = Reached [] in
     subst P (λ i. record { nodes = 0; cells = 0; boards = sym e i; memory = sym f i; end = 0; limit = limit; bag = bag }) (new limit bag)
 
-abbrev pub bad_sizes : ℕ → ℕ → ℕ → Bool
+abbrev bad_sizes : ℕ → ℕ → ℕ → Bool
 bad_sizes n l c = outside 16 n || (outside 16 l || outside 64 c)
 
 pub sizes : (n l c : ℕ) → bad_sizes n l c ≡ false → ((1 ≤ n) × (n ≤ 16)) × (((1 ≤ l) × (l ≤ 16)) × ((1 ≤ c) × (c ≤ 64)))
@@ -55,8 +51,8 @@ module _ {N : Type 0} (net : Ghosts N) (at : N) (m : Moment) (bag : m.bag ≡ ma
   same : (ltb 0 (length m.bag) || ltb m.limit 2) ≡ unfit
   same = ap (λ k. ltb 0 k || ltb m.limit 2) (ap length bag ∙ length-map (net.bag at) plain)
 
-  pub refused_21 : (m.nodes ≡ 0 → ⊥) → Done net at m (start n l c) (refused (start n l c) (refusal 21 layer.system None None)) at m
-  refused_21 nz = quiet net (start n l c) (refl, refl) (refl, sym bag) (cond-true (is_started m) _ _ (at_work m nz)) bag
+  pub refused_21 : 1 ≤ m.nodes → Done net at m (start n l c) (refused (start n l c) (refusal 21 layer.system None None)) at m
+  refused_21 works = quiet net (start n l c) (refl, refl) (refl, sym bag) (cond-true (is_started m) _ _ (at_work m works)) bag
 
   pub refused_1 : m.nodes ≡ 0 → bad_sizes n l c ≡ true → Done net at m (start n l c) (refused (start n l c) (refusal 1 layer.system None None)) at m
   refused_1 z b = quiet net (start n l c) (refl, refl) (refl, sym bag) (cond-false (is_started m) _ _ (not_at_work m z) ∙ cond-true (bad_sizes n l c) _ _ b) bag

@@ -1,5 +1,5 @@
 -- A call is carried out: from what it does to the memory and to its network.
-use Rattle.std.proofs.Common.{◌≡◌, ℕ, true, false, eqb, List, map, set, None, Err, Result, sym, refl, ap, ◌∙◌, subst}
+use Rattle.std.proofs.Common.{◌≡◌, ℕ, ◌≤◌, true, false, eqb, List, map, set, None, Ok, Err, IsErrAnd, Result, sym, refl, ap, ◌∙◌, subst, arith}
 use Rattle.std.specs.Option.{option_map}
 use Rattle.std.proofs.lemmas.List.{set-get_or}
 use Rattle.std.proofs.lemmas.Bool.{ne_eqb, eq-eqb, not_from_false, not_from_true}
@@ -12,11 +12,12 @@ use Rattle.protocol.specs.Steps.{does, takes, refuse, Asks, Step}
 use Rattle.protocol.proofs.Laws.{law_of_runs}
 use Rattle.system.specs.declared.fault.SystemFault.{SystemFault}
 use Rattle.system.specs.Faults.{refusal_of}
-use Rattle.system.specs.Systems.{answered}
+use Rattle.system.specs.declared.system.System.{System}
+use Rattle.system.specs.Systems.{moment, answered}
 use Rattle.system.specs.Through.{Takes, Offers, Made, Done}
 
-pub at_work : (m : Moment) → (m.nodes ≡ 0 → ⊥) → is_started m ≡ true
-at_work m nz = not_from_false (eqb m.nodes 0) (ne_eqb m.nodes 0 nz)
+pub at_work : (m : Moment) → 1 ≤ m.nodes → is_started m ≡ true
+at_work m some = not_from_false (eqb m.nodes 0) (ne_eqb m.nodes 0 (λ none. omega (arith, some, none)))
 
 pub not_at_work : (m : Moment) → m.nodes ≡ 0 → is_started m ≡ false
 not_at_work m z = not_from_true (eqb m.nodes 0) (eq-eqb m.nodes 0 z)
@@ -48,12 +49,16 @@ quiet net {n} {m} {m'} {e} c none asks is bag =
       leaves = sym (ap (λ o. with_bag o.after m'.bag) is);
     }) asks (subst (λ ms. Offered m.limit (map plain (net.bag n)) ms m'.bag) (sym (ap (λ o. o.sent) is)) bag)
 
+-- the event of a call whose answer is a fault
+pub told : {X : Type 0} (c : Call) (taken : X → Event) (fault : SystemFault) (r : Result X SystemFault) → IsErrAnd r (λ y. y ≡ fault) → refused c (refusal_of fault) ≡ answered c taken r
+told c taken fault (Ok x) err = absurd err
+told c taken fault (Err y) err = ap (λ f. refused c (refusal_of f)) (sym err)
+
 -- a check stopped the call, whose answer is its fault
-pub stopped : {N : Type 0} (net : Ghosts N) {n : N} {m : Moment} {X : Type 0} (c : Call) (taken : X → Event) (fault : SystemFault) (r : Result X SystemFault)
-    → (y : SystemFault) × (r ≡ Err y) × (y ≡ fault) → Takes net m c n None n → Asks m c None (map plain (net.bag n)) → does m c None ≡ refuse m c (refusal_of fault)
-    → m.bag ≡ map plain (net.bag n) → Done net n m c (answered c taken r) n m
-stopped net {n} {m} c taken fault r p none asks is bag =
-    quiet net c none asks (is ∙ ap (λ e. takes e m) (sym (ap (answered c taken) p.1 ∙ ap (λ f. refused c (refusal_of f)) p.2))) bag
+pub stopped : {N : Type 0} (net : Ghosts N) (s : System N) {X : Type 0} (c : Call) (taken : X → Event) (fault : SystemFault) (r : Result X SystemFault) → IsErrAnd r (λ y. y ≡ fault)
+    → Takes net (moment net s) c s.network None s.network → Asks (moment net s) c None (map plain (net.bag s.network)) → does (moment net s) c None ≡ refuse (moment net s) c (refusal_of fault)
+    → Done net s.network (moment net s) c (answered c taken r) s.network (moment net s)
+stopped net s c taken fault r err none asks is = quiet net {m = moment net s} c none asks (is ∙ ap (λ e. takes e (moment net s)) (told c taken fault r err)) refl
 
 -- the boards of a moment are others
 abbrev pub with_boards : Moment → List Tables → Moment

@@ -1,25 +1,18 @@
 -- How many nodes wait at cells.
-use Rattle.std.proofs.Common.{ℕ, zero, suc, ◌*◌, ◌≤◌, List, [], ◌∷◌, length, get_or, set, replicate, sum_by, arith}
+use Rattle.std.proofs.Common.{ℕ, zero, suc, ◌*◌, ◌≤◌, List, [], ◌∷◌, length, get_or, replicate, sum_by, arith}
 use Rattle.std.proofs.lemmas.List.Sums.{sum_by-cons}
 use Rattle.home.specs.declared.cell.Cell.{Cell}
 use Rattle.home.specs.declared.cell.Cell.TheVariants.{Undefined}
 use Rattle.protocol.specs.Moments.{waiters}
 
 -- no cell has more than the sixteen nodes
-abbrev pub Few : List Cell → Type 0
+abbrev Few : List Cell → Type 0
 Few cells = (a : ℕ) → waiters (get_or cells a Undefined) ≤ 16
 
 pub few_undefined : (k : ℕ) → Few (replicate k Undefined)
 few_undefined zero a = omega arith
 few_undefined (suc k) zero = omega arith
 few_undefined (suc k) (suc a) = few_undefined k a
-
-pub few_set : (cells : List Cell) (i : ℕ) (y : Cell) → Few cells → waiters y ≤ 16 → Few (set cells i y)
-few_set [] i y f h a = f a
-few_set (x ∷ cells) zero y f h zero = h
-few_set (x ∷ cells) zero y f h (suc a) = f (suc a)
-few_set (x ∷ cells) (suc i) y f h zero = f zero
-few_set (x ∷ cells) (suc i) y f h (suc a) = few_set cells i y (λ b. f (suc b)) h a
 
 pub few_in_all : (cells : List Cell) → Few cells → sum_by waiters cells ≤ 16 * length cells
 few_in_all [] f = omega arith

@@ -2,5 +2,5 @@ pub mod Faults
 pub mod Systems
 pub mod Through
 pub mod Parked
-pub mod Told
+pub mod Refusals
 pub mod Undrawn

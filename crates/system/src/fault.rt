@@ -7,14 +7,14 @@ use lines::LineFault;
 use network::Address;
 
 // Why no array is created.
-#[derive(Clone, Copy)]
+#[derive(Clone, Copy, PartialEq, Eq)]
 pub enum CreateFault {
     BadSize,
     NoRoom,
 }
 
 // The numbers are those of the node, and of the address, that the call named.
-#[derive(Clone, Copy)]
+#[derive(Clone, Copy, PartialEq, Eq)]
 pub enum SystemFault {
     NotStarted,
     StartedAlready,
@@ -51,5 +51,3 @@ impl From<WrittenTwice> for SystemFault {
 }
 
 mod refusal;
-
-pub use refusal::{Layer, Refusal};

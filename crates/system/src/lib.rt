@@ -8,6 +8,7 @@ mod parking;
 mod system;
 
 pub use drawn::Drawn;
-pub use fault::{CreateFault, Layer, Refusal, SystemFault};
+pub use fault::{CreateFault, SystemFault};
 pub use parking::Parking;
-pub use system::System;
+pub use refusals::{Layer, Refusal};
+pub use system::{Sizes, System};

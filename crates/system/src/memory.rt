@@ -38,6 +38,7 @@ impl Memory {
         }
     }
 
+    #[tactic(auto, using(crate::proofs::Waiting::few_in_all))]
     pub(crate) fn waiting(&self) -> usize
         ensures value { result ≡ sum_by waiters self.now.cells }
         ensures few { result ≤ 16384 }
@@ -46,6 +47,7 @@ impl Memory {
     }
 
     // A message comes to the home of its address.
+    #[tactic(auto, using(crate::proofs::Waiting::few_in_all))]
     pub(crate) fn receive(&mut self, message: Message) -> Result<Replies, WrittenTwice>
         ensures answer { told result ≡ answer (slice_index_or self.old.cells message.address.index Undefined) (plain message) }
         ensures cells { self.new.cells ≡ slice_set self.old.cells message.address.index (after (slice_index_or self.old.cells message.address.index Undefined) (plain message)) }

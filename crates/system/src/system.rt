@@ -4,7 +4,9 @@ ghost use Rattle.std.specs.Prelude.{◌≤◌};
 use crate::memory::Memory;
 use lines::Board;
 
-// The nodes at work and the cells of each, 0 before the start; the end of the arrays created so far.
+// The nodes at work and the cells of each; the end of the arrays created so far.
+// Both are 0 before the start, and no Option: the rules say so, and a moment before it has boards and cells too.
+// A call borrows the boards before it takes one of them: the check has no plan for `self.boards[i].draw()`.
 #[derive(Drop)]
 pub struct System<N> {
     network: N,
@@ -21,7 +23,6 @@ pub struct System<N> {
 
 mod acts;
 mod arrays;
-mod at;
 mod checks;
 mod deliveries;
 mod drawing;
@@ -29,3 +30,5 @@ mod offers;
 mod requests;
 mod start;
 mod undrawn;
+
+pub use start::Sizes;

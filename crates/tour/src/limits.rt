@@ -1,17 +1,7 @@
 // Numbers of the program's own, held to the machine's limits.
-use anyhow::anyhow;
-use network::{Address, Node};
+use anyhow::Context;
+use network::Number;
 
-pub(crate) fn node(number: u64) -> anyhow::Result<Node> {
-    match Node::new(number) {
-        Some(node) => Ok(node),
-        None => Err(anyhow!("no such node")),
-    }
-}
-
-pub(crate) fn address(number: u64) -> anyhow::Result<Address> {
-    match Address::new(number) {
-        Some(address) => Ok(address),
-        None => Err(anyhow!("no such address")),
-    }
+pub(crate) fn within<const LIMIT: u16>(number: u64) -> anyhow::Result<Number<LIMIT>> {
+    Number::new(number).context("no such number")
 }

@@ -6,9 +6,11 @@ ghost use Rattle.std.proofs.Common.{rules};
 use bounded::ArrayVec;
 use network::{Full, Message, Network};
 
+const LIMIT: usize = 32;
+
 #[derive(Drop)]
 pub struct Stack {
-    held: ArrayVec<Message, 32>,
+    held: ArrayVec<Message, LIMIT>,
 }
 
 impl Stack {
@@ -34,11 +36,8 @@ impl Network for Stack {
 
     // The newest first, whatever the pick.
     fn take(&mut self, _pick: u64) -> Option<Message> {
-        let count = self.held.len();
-        if count == 0 {
-            return None;
-        }
-        self.held.remove(count - 1)
+        let last = self.held.len().checked_sub(1)?;
+        self.held.remove(last)
     }
 
     fn count(&self) -> usize {
@@ -46,6 +45,6 @@ impl Network for Stack {
     }
 
     fn limit(&self) -> usize {
-        32
+        LIMIT
     }
 }

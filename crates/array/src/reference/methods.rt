@@ -1,26 +1,24 @@
 ghost use Rattle.std.specs.Prelude.{◌≡◌};
 ghost use Rattle.std.specs.Option.{option_map};
-ghost use Rattle.array.specs.References.{plain, referring, parted, reference_word};
+ghost use Rattle.array.specs.References.{plain, referring, reference_word};
 ghost use Rattle.std.proofs.Common.{rules};
 
 use super::ArrayRef;
 use crate::element::{Element, NotAnElement};
-use crate::kind::Kind;
 
-const CELLS: u64 = 1024;
+const CELLS: u16 = 1024;
 
 impl ArrayRef {
     pub fn new(kind: u64, base: u64, length: u64) -> Option<ArrayRef>
         ensures { option_map plain result ≡ referring kind base length }
     {
-        if kind == 0 || kind > 255 || length == 0 || length > CELLS || base > CELLS - length {
+        let kind = u8::try_from(kind).ok()?;
+        let base = u16::try_from(base).ok()?;
+        let length = u16::try_from(length).ok()?;
+        if kind == 0 || length == 0 || length > CELLS || base > CELLS - length {
             return None;
         }
-        Some(ArrayRef {
-            kind: kind as u8,
-            base: base as u16,
-            length: length as u16,
-        })
+        Some(ArrayRef { kind, base, length })
     }
 
     pub fn kind(self) -> u8
@@ -42,29 +40,15 @@ impl ArrayRef {
     }
 }
 
-// The reference that a word's three parts make, whatever the word.
-fn from_parts(word: u64) -> Option<ArrayRef>
-    ensures { option_map plain result ≡ parted word }
-{
-    let kind = word / 0x1_0000_0000;
-    let base = word / 0x1_0000 % 0x1_0000;
-    let length = word % 0x1_0000;
-    ArrayRef::new(kind, base, length)
-}
-
 // A reference to an array is an element too, so that arrays hold arrays.
 impl Element for ArrayRef {
-    type Kind = Kind<3>;
+    const NUMBER: u8 = 3;
 
-    const KIND: Self::Kind = Kind;
-
-    ghost numbered = { 3 };
+    ghost NUMBER = { 3 };
 
     ghost valid = { λ _. Unit {0} };
 
     ghost packed = { λ a. reference_word (plain a) };
-
-    ghost tied = { Prim.search rules };
 
     ghost least = { Prim.search rules };
 
@@ -72,10 +56,10 @@ impl Element for ArrayRef {
 
     fn pack(self) -> u64 {
         let ArrayRef { kind, base, length } = self;
-        u64::from(kind) * 0x1_0000_0000 + u64::from(base) * 0x1_0000 + u64::from(length)
+        (u64::from(kind) << 32) + (u64::from(base) << 16) + u64::from(length)
     }
 
     fn open(word: u64) -> Result<ArrayRef, NotAnElement> {
-        from_parts(word).ok_or(NotAnElement)
+        ArrayRef::new(word >> 32, (word >> 16) & 0xFFFF, word & 0xFFFF).ok_or(NotAnElement)
     }
 }

@@ -26,11 +26,7 @@ impl<T: Copy, const CAP: usize> ArrayVec<T, CAP> {
     pub fn get(&self, i: usize) -> Option<T>
         ensures { result ≡ slice_get (listed self.now) i }
     {
-        if i < self.len {
-            Some(self.items[i])
-        } else {
-            None
-        }
+        self.as_slice().get(i).copied()
     }
 
     // Adds `x` behind the others, where there is room.
@@ -56,10 +52,8 @@ impl<T: Copy, const CAP: usize> ArrayVec<T, CAP> {
             return None;
         }
         let x = self.items[i];
+        self.items.copy_within(i + 1..self.len, i);
         self.len -= 1;
-        for k in i..self.len {
-            self.items[k] = self.items[k + 1];
-        }
         Some(x)
     }
 

@@ -8,7 +8,7 @@ ghost use Rattle.lines.specs.Plain.{plain_read, plain_answer, plain_acted, plain
 
 use super::Board;
 use crate::raw::RawBoard;
-use crate::types::{ActFault, Acted, Answer, NotDrawn, PlacesTaken, Read, WritesHeld};
+use crate::types::{ActFault, Acted, Answer, NotDrawn, PlacesTaken, Read, Traffic, WritesHeld};
 use network::{Address, Node};
 
 impl Board {
@@ -40,18 +40,12 @@ impl Board {
         self.raw.write(address, word)
     }
 
-    // Acts on command `pick`, the oldest being 0, while the network holds `load` messages of at most `limit`.
-    pub fn act(
-        &mut self,
-        node: Node,
-        pick: usize,
-        load: usize,
-        limit: usize,
-    ) -> Result<Acted, ActFault>
-        ensures answer { both plain_acted plain_refusal result ≡ (acted node.index (tables self.old) pick load limit).answer }
-        ensures after { tables self.new ≡ (acted node.index (tables self.old) pick load limit).after }
+    // Acts on command `pick`, the oldest being 0, while the network has such traffic.
+    pub fn act(&mut self, node: Node, pick: usize, traffic: Traffic) -> Result<Acted, ActFault>
+        ensures answer { both plain_acted plain_refusal result ≡ (acted node.index (tables self.old) pick traffic.load traffic.limit).answer }
+        ensures after { tables self.new ≡ (acted node.index (tables self.old) pick traffic.load traffic.limit).after }
     {
-        self.raw.act(node, pick, load, limit)
+        self.raw.act(node, pick, traffic)
     }
 
     // The word of an address comes in. Answers how many places it made ready.

@@ -1,51 +1,29 @@
 // The tables as lists: a number that is no place's or no line's is passed over.
 ghost use Rattle.std.specs.Prelude.{◌≡◌, ◌<◌, [], ◌∷◌, ◌++◌, map, length, slice_index_or, slice_set};
 ghost use Rattle.bounded.specs.Listed.{listed};
-ghost use Rattle.lines.specs.Model.{free, empty};
-ghost use Rattle.lines.specs.Plain.{plain_command, plain_place, plain_line};
+ghost use Rattle.lines.specs.Model.{place_at, line_at};
+ghost use Rattle.lines.specs.Plain.{plain_place, plain_line};
+ghost use Rattle.lines.specs.Raws.{raw_tables};
 
-use crate::types::{Command, Line, Place};
+use super::RawBoard;
+use crate::types::{Line, Place};
 use bounded::ArrayVec;
 
-// The place at a number; a number that is none is free.
-pub(super) fn at(places: &[Place], p: usize) -> Place
-    ensures { plain_place result ≡ slice_index_or (map plain_place places.now) p free }
+// The item at a number; a number that is none has `other`.
+pub(super) fn at<T: Copy>(items: &[T], i: usize, other: T) -> T
+    ensures { result ≡ slice_index_or items.now i other }
 {
-    if p < places.len() {
-        places[p]
-    } else {
-        Place::Free
-    }
+    items.get(i).copied().unwrap_or(other)
 }
 
+// The place at a number becomes another. (By a test: of `get_mut` the library does not say what the slice ends as.)
+#[tactic(auto, using(crate::proofs::Mapped::mapped))]
 pub(super) fn put(places: &mut [Place], p: usize, x: Place)
     ensures { map plain_place places.new ≡ slice_set (map plain_place places.old) p (plain_place x) }
 {
     if p < places.len() {
         places[p] = x;
     }
-}
-
-// The line at a number; a number that is none is empty.
-pub(super) fn line_at(lines: &ArrayVec<Line, 16>, i: usize) -> Line
-    ensures { plain_line result ≡ slice_index_or (map plain_line (listed lines.now)) i empty }
-{
-    match lines.get(i) {
-        Some(line) => line,
-        None => Line::Empty,
-    }
-}
-
-pub(super) fn put_line(lines: &mut ArrayVec<Line, 16>, i: usize, line: Line)
-    ensures { map plain_line (listed lines.new) ≡ slice_set (map plain_line (listed lines.old)) i (plain_line line) }
-{
-    lines.set(i, line);
-}
-
-pub(super) fn count(lines: &ArrayVec<Line, 16>) -> usize
-    ensures { result ≡ length (map plain_line (listed lines.now)) }
-{
-    lines.len()
 }
 
 // Adds `x` behind the others; there is room.
@@ -56,9 +34,18 @@ pub(super) fn append<T: Copy, const CAP: usize>(list: &mut ArrayVec<T, CAP>, x: 
     let _ = list.push(x);
 }
 
-pub(super) fn add_command(commands: &mut ArrayVec<Command, 64>, command: Command)
-    requires { length (map plain_command (listed commands.old)) < 64 }
-    ensures { map plain_command (listed commands.new) ≡ map plain_command (listed commands.old) ++ plain_command command ∷ [] }
-{
-    append(commands, command);
+impl RawBoard {
+    // The place at a number; a number that is none is free.
+    pub(super) fn place(&self, p: usize) -> Place
+        ensures { plain_place result ≡ place_at (raw_tables self.now) p }
+    {
+        at(&self.places, p, Place::Free)
+    }
+
+    // The line at a number; a number that is none is empty.
+    pub(super) fn line(&self, i: usize) -> Line
+        ensures { plain_line result ≡ line_at (raw_tables self.now) i }
+    {
+        at(self.lines.as_slice(), i, Line::Empty)
+    }
 }

@@ -9,9 +9,11 @@ ghost use Rattle.lines.specs.Plain.{plain_command, plain_read, plain_acted, plai
 ghost use Rattle.lines.specs.Raws.{raw_tables};
 
 use super::RawBoard;
-use super::access::{append, at, put};
+use super::access::{append, put};
 use super::lines::find;
-use crate::types::{ActFault, Acted, Command, Found, Line, LineFault, Outgoing, Place, Read};
+use crate::types::{
+    ActFault, Acted, Command, Found, Line, LineFault, Outgoing, Place, Read, Traffic,
+};
 use network::{Address, Node};
 
 impl Command {
@@ -28,6 +30,7 @@ impl Command {
 
 impl RawBoard {
     // Command `pick` is used up.
+    #[tactic(auto, using(crate::proofs::Commands::less))]
     fn use_up(&mut self, pick: usize)
         ensures { raw_tables self.new ≡ used (raw_tables self.old) pick }
     {
@@ -59,17 +62,16 @@ impl RawBoard {
         pick: usize,
         place: usize,
         read: Read,
-        load: usize,
-        limit: usize,
+        traffic: Traffic,
     ) -> Result<Acted, ActFault>
-        requires { Facts (raw_tables self.old) }
-        ensures answer { result_map_both plain_acted plain_refusal result ≡ (read_claims node.index (raw_tables self.old) pick place (plain_read read) load limit (claimed (raw_tables self.old))).answer }
-        ensures after { raw_tables self.new ≡ (read_claims node.index (raw_tables self.old) pick place (plain_read read) load limit (claimed (raw_tables self.old))).after }
+        ensures answer { result_map_both plain_acted plain_refusal result ≡ (read_claims node.index (raw_tables self.old) pick place (plain_read read) traffic.load traffic.limit (claimed (raw_tables self.old))).answer }
+        ensures after { raw_tables self.new ≡ (read_claims node.index (raw_tables self.old) pick place (plain_read read) traffic.load traffic.limit (claimed (raw_tables self.old))).after }
     {
         let i = self
             .claim()
             .ok_or(LineFault::EveryLineWaits(node, read.address))?;
-        if load >= limit.saturating_sub(1) {
+        // There is to be room for the reply too.
+        if traffic.room() < 2 {
             return Err(ActFault::NetworkFull(read.address));
         }
         self.take_line(i, Line::waiting(read.address, place));
@@ -87,20 +89,19 @@ impl RawBoard {
         node: Node,
         pick: usize,
         place: usize,
-        load: usize,
-        limit: usize,
+        traffic: Traffic,
     ) -> Result<Acted, ActFault>
         requires facts { Facts (raw_tables self.old) }
         requires named { slice_get (raw_tables self.old).commands pick ≡ Some (reading place) }
-        ensures answer { result_map_both plain_acted plain_refusal result ≡ (act_on node.index (raw_tables self.old) pick load limit (Some (reading place))).answer }
-        ensures after { raw_tables self.new ≡ (act_on node.index (raw_tables self.old) pick load limit (Some (reading place))).after }
+        ensures answer { result_map_both plain_acted plain_refusal result ≡ (act_on node.index (raw_tables self.old) pick traffic.load traffic.limit (Some (reading place))).answer }
+        ensures after { raw_tables self.new ≡ (act_on node.index (raw_tables self.old) pick traffic.load traffic.limit (Some (reading place))).after }
     {
         // A read command names a held place.
-        let Place::Held(read) = at(&self.places, place) else {
+        let Place::Held(read) = self.place(place) else {
             return Err(ActFault::NoSuchCommand);
         };
         match find(self.lines.as_slice(), read.address) {
-            Found::Holds(word) => {
+            Some(Found::Holds(word)) => {
                 self.make_ready(place, read, word);
                 self.use_up(pick);
                 Ok(Acted {
@@ -108,7 +109,7 @@ impl RawBoard {
                     sends: None,
                 })
             }
-            Found::Waits(i) => {
+            Some(Found::Waits(i)) => {
                 self.join(i, place);
                 self.defer(place, read);
                 self.use_up(pick);
@@ -117,7 +118,7 @@ impl RawBoard {
                     sends: None,
                 })
             }
-            Found::Absent => self.ask(node, pick, place, read, load, limit),
+            None => self.ask(node, pick, place, read, traffic),
         }
     }
 
@@ -128,21 +129,20 @@ impl RawBoard {
         pick: usize,
         address: Address,
         word: u64,
-        load: usize,
-        limit: usize,
+        traffic: Traffic,
     ) -> Result<Acted, ActFault>
         requires { Facts (raw_tables self.old) }
-        ensures answer { result_map_both plain_acted plain_refusal result ≡ (act_on node.index (raw_tables self.old) pick load limit (Some (writing address.index word))).answer }
-        ensures after { raw_tables self.new ≡ (act_on node.index (raw_tables self.old) pick load limit (Some (writing address.index word))).after }
+        ensures answer { result_map_both plain_acted plain_refusal result ≡ (act_on node.index (raw_tables self.old) pick traffic.load traffic.limit (Some (writing address.index word))).answer }
+        ensures after { raw_tables self.new ≡ (act_on node.index (raw_tables self.old) pick traffic.load traffic.limit (Some (writing address.index word))).after }
     {
         let readied = match find(self.lines.as_slice(), address) {
-            Found::Holds(_) => {
+            Some(Found::Holds(_)) => {
                 self.use_up(pick);
                 return Err(ActFault::from(LineFault::WrittenTwice(node, address)));
             }
-            _ if load >= limit => return Err(ActFault::NetworkFull(address)),
-            Found::Waits(i) => self.fill(i, address, word),
-            Found::Absent => {
+            _ if traffic.room() == 0 => return Err(ActFault::NetworkFull(address)),
+            Some(Found::Waits(i)) => self.fill(i, address, word),
+            None => {
                 self.fill_new(address, word);
                 0
             }
@@ -154,24 +154,22 @@ impl RawBoard {
         })
     }
 
-    // Acts on command `pick`, the oldest being 0, while the network holds `load` messages of at most `limit`.
+    // Acts on command `pick`, the oldest being 0, while the network has such traffic.
+    #[tactic(auto, using(crate::proofs::Mapped::mapped))]
     pub(crate) fn act(
         &mut self,
         node: Node,
         pick: usize,
-        load: usize,
-        limit: usize,
+        traffic: Traffic,
     ) -> Result<Acted, ActFault>
         requires { Facts (raw_tables self.old) }
-        ensures answer { result_map_both plain_acted plain_refusal result ≡ (acted node.index (raw_tables self.old) pick load limit).answer }
-        ensures after { raw_tables self.new ≡ (acted node.index (raw_tables self.old) pick load limit).after }
+        ensures answer { result_map_both plain_acted plain_refusal result ≡ (acted node.index (raw_tables self.old) pick traffic.load traffic.limit).answer }
+        ensures after { raw_tables self.new ≡ (acted node.index (raw_tables self.old) pick traffic.load traffic.limit).after }
     {
-        let Some(command) = self.commands.get(pick) else {
-            return Err(ActFault::NoSuchCommand);
-        };
+        let command = self.commands.get(pick).ok_or(ActFault::NoSuchCommand)?;
         match command {
-            Command::Read(place) => self.act_read(node, pick, place, load, limit),
-            Command::Write(address, word) => self.act_write(node, pick, address, word, load, limit),
+            Command::Read(place) => self.act_read(node, pick, place, traffic),
+            Command::Write(address, word) => self.act_write(node, pick, address, word, traffic),
         }
     }
 }

@@ -1,38 +1,39 @@
 // The lines: an address is looked up, a line is claimed, a word comes in.
 ghost use Rattle.std.specs.Prelude.{◌≡◌, ℕ, ◌+◌, ◌<◌, ◌≤◌, [], ◌∷◌, ◌++◌, map, length, slice_index_or, slice_set};
 ghost use Rattle.bounded.specs.Listed.{listed};
-ghost use Rattle.rounds.specs.Rounds.{first_round};
 ghost use Rattle.lines.specs.Facts.{Facts, times, if_deferred};
-ghost use Rattle.lines.specs.Model.{free, ready, read_of, empty, waiting, line_at, tells, found, waits, joined, joining, claimed, claiming, woken, filling, filling_new, replied};
-ghost use Rattle.lines.specs.Plain.{plain_place, plain_line, plain_found, of_kind};
+ghost use Rattle.lines.specs.Model.{free, ready, read_of, waiting, is_empty, is_filled, line_at, tells, found, waits, joined, joining, claimed, claiming, woken, filling, filling_new, replied};
+ghost use Rattle.lines.specs.Plain.{plain_place, plain_line, plain_found};
 ghost use Rattle.lines.specs.Raws.{raw_tables};
 
 use super::RawBoard;
-use super::access::{append, at, count, line_at, put, put_line};
-use crate::types::{Found, Kind, Line, Place};
+use super::access::{append, at, put};
+use crate::types::{Found, Line, Place};
 use bounded::ArrayVec;
 use network::Address;
-use rounds::one_past;
+use rounds::{first_round, one_past};
 
 impl Line {
-    fn is(&self, kind: Kind) -> bool
-        ensures { result ≡ of_kind kind (plain_line self.now) }
+    fn is_empty(self) -> bool
+        ensures { result ≡ is_empty (plain_line self) }
     {
-        match (kind, self) {
-            (Kind::Empty, Line::Empty) => true,
-            (Kind::Filled, Line::Filled(_, _)) => true,
-            _ => false,
-        }
+        matches!(self, Line::Empty)
+    }
+
+    fn is_filled(self) -> bool
+        ensures { result ≡ is_filled (plain_line self) }
+    {
+        matches!(self, Line::Filled(_, _))
     }
 
     // What this line, number `i`, says of an address.
-    fn tells(&self, address: Address, i: usize) -> Found
+    fn tells(&self, address: Address, i: usize) -> Option<Found>
         ensures { plain_found result ≡ tells address.index i (plain_line self.now) }
     {
         match self {
-            Line::Waiting(a, _) if a.index() == address.index() => Found::Waits(i),
-            Line::Filled(a, word) if a.index() == address.index() => Found::Holds(*word),
-            _ => Found::Absent,
+            Line::Waiting(a, _) if *a == address => Some(Found::Waits(i)),
+            Line::Filled(a, word) if *a == address => Some(Found::Holds(*word)),
+            _ => None,
         }
     }
 
@@ -70,31 +71,13 @@ impl Line {
     }
 }
 
-pub(super) fn find(lines: &[Line], address: Address) -> Found
+pub(super) fn find(lines: &[Line], address: Address) -> Option<Found>
     ensures { plain_found result ≡ found address.index 0 (map plain_line lines.now) }
 {
-    for (i, line) in lines.iter().enumerate() {
-        match line.tells(address, i) {
-            Found::Absent => {}
-            told => return told,
-        }
-    }
-    Found::Absent
-}
-
-// The first line of a kind, counted up and round from the hand.
-fn first_line(lines: &[Line], kind: Kind, hand: usize) -> Option<usize>
-    requires { hand < length lines.now }
-    ensures { result ≡ first_round (λ i. of_kind kind (slice_index_or (map plain_line lines.now) i empty)) (length (map plain_line lines.now)) hand }
-{
-    let mut i = hand;
-    for _turn in 0..lines.len() {
-        if lines[i].is(kind) {
-            return Some(i);
-        }
-        i = one_past(i, lines.len());
-    }
-    None
+    lines
+        .iter()
+        .enumerate()
+        .find_map(|(i, line)| line.tells(address, i))
 }
 
 // A place that waits gets its word.
@@ -102,7 +85,7 @@ fn wake_one(places: &mut [Place], place: usize, word: u64)
     requires { 1 ≤ if_deferred (slice_index_or (map plain_place places.old) place free) }
     ensures { map plain_place places.new ≡ slice_set (map plain_place places.old) place (ready (read_of (slice_index_or (map plain_place places.old) place free)) word) }
 {
-    if let Place::Deferred(read) = at(places, place) {
+    if let Place::Deferred(read) = at(places, place, Place::Free) {
         put(places, place, Place::Ready(read, word));
     }
 }
@@ -123,47 +106,47 @@ fn wake(places: &mut [Place], order: &mut ArrayVec<usize, 32>, waiting: &[usize]
 impl RawBoard {
     // The line that a new address takes: an empty one, or else a filled one.
     pub(super) fn claim(&self) -> Option<usize>
-        requires { Facts (raw_tables self.now) }
         ensures { result ≡ claimed (raw_tables self.now) }
     {
-        match first_line(self.lines.as_slice(), Kind::Empty, self.hand) {
-            Some(i) => Some(i),
-            None => first_line(self.lines.as_slice(), Kind::Filled, self.hand),
-        }
+        let lines = self.lines.len();
+        let empty = first_round(self.hand, lines, |i| self.line(i).is_empty());
+        empty.or_else(|| first_round(self.hand, lines, |i| self.line(i).is_filled()))
     }
 
     // Line `i` is claimed, and the hand goes to the line after it.
+    #[tactic(auto, using(crate::proofs::Mapped::mapped))]
     pub(super) fn take_line(&mut self, i: usize, line: Line)
         ensures { raw_tables self.new ≡ claiming (raw_tables self.old) i (plain_line line) }
     {
-        self.hand = one_past(i, count(&self.lines));
-        put_line(&mut self.lines, i, line);
+        self.hand = one_past(i, self.lines.len());
+        self.lines.set(i, line);
     }
 
     // One more place waits at line `i`.
+    #[tactic(auto, using(crate::proofs::Mapped::mapped))]
     pub(super) fn join(&mut self, i: usize, place: usize)
         requires { length (waits (line_at (raw_tables self.old) i)) < 32 }
         ensures { raw_tables self.new ≡ joining (raw_tables self.old) i place }
     {
-        let line = line_at(&self.lines, i);
-        put_line(&mut self.lines, i, line.joined(place));
+        let line = self.line(i);
+        self.lines.set(i, line.joined(place));
     }
 
     // The word comes to line `i`: its places become ready, oldest first. Answers how many they are.
+    #[tactic(auto, using(crate::proofs::Mapped::mapped))]
     pub(super) fn fill(&mut self, i: usize, address: Address, word: u64) -> usize
         requires { Facts (raw_tables self.old) }
         ensures answer { result ≡ length (waits (line_at (raw_tables self.old) i)) }
         ensures after { raw_tables self.new ≡ filling (raw_tables self.old) i address.index word }
     {
-        let waiting = line_at(&self.lines, i).places();
+        let waiting = self.line(i).places();
         wake(&mut self.places, &mut self.order, waiting.as_slice(), word);
-        put_line(&mut self.lines, i, Line::Filled(address, word));
+        self.lines.set(i, Line::Filled(address, word));
         waiting.len()
     }
 
     // The word takes a line of its own, unless every line waits.
     pub(super) fn fill_new(&mut self, address: Address, word: u64)
-        requires { Facts (raw_tables self.old) }
         ensures { raw_tables self.new ≡ filling_new (raw_tables self.old) address.index word (claimed (raw_tables self.old)) }
     {
         if let Some(i) = self.claim() {
@@ -177,7 +160,7 @@ impl RawBoard {
         ensures after { raw_tables self.new ≡ (replied (raw_tables self.old) address.index word).after }
     {
         match find(self.lines.as_slice(), address) {
-            Found::Waits(i) => self.fill(i, address, word),
+            Some(Found::Waits(i)) => self.fill(i, address, word),
             _ => 0,
         }
     }

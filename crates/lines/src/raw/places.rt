@@ -8,10 +8,10 @@ ghost use Rattle.lines.specs.Plain.{plain_read, plain_place, plain_answer};
 ghost use Rattle.lines.specs.Raws.{raw_tables};
 
 use super::RawBoard;
-use super::access::{add_command, at, put};
+use super::access::{append, put};
 use crate::types::{Answer, Command, NotDrawn, Place, PlacesTaken, Read, WritesHeld};
 use network::Address;
-use rounds::one_past;
+use rounds::{first_round, one_past};
 
 const PLACES: usize = 32;
 
@@ -30,27 +30,21 @@ impl RawBoard {
     fn free_place(&self) -> Option<usize>
         ensures { result ≡ free_place (raw_tables self.now) }
     {
-        let mut i = one_past(self.last, PLACES);
-        for _turn in 0..PLACES {
-            if at(&self.places, i).is_free() {
-                return Some(i);
-            }
-            i = one_past(i, PLACES);
-        }
-        None
+        first_round(one_past(self.last, PLACES), PLACES, |p| {
+            self.place(p).is_free()
+        })
     }
 
+    #[tactic(auto, using(crate::proofs::Mapped::mapped, crate::proofs::Counts::writes_push))]
     pub(crate) fn read(&mut self, read: Read) -> Result<usize, PlacesTaken>
         requires { Facts (raw_tables self.old) }
         ensures answer { result_ok result ≡ free_place (raw_tables self.old) }
         ensures after { raw_tables self.new ≡ given (raw_tables self.old) (plain_read read) (free_place (raw_tables self.old)) }
     {
-        let Some(place) = self.free_place() else {
-            return Err(PlacesTaken);
-        };
+        let place = self.free_place().ok_or(PlacesTaken)?;
         put(&mut self.places, place, Place::Held(read));
         self.last = place;
-        add_command(&mut self.commands, Command::Read(place));
+        append(&mut self.commands, Command::Read(place));
         Ok(place)
     }
 
@@ -60,6 +54,7 @@ impl RawBoard {
         self.writes < WRITES
     }
 
+    #[tactic(auto, using(crate::proofs::Mapped::mapped, crate::proofs::Counts::writes_push))]
     pub(crate) fn write(&mut self, address: Address, word: u64) -> Result<(), WritesHeld>
         requires { Facts (raw_tables self.old) }
         ensures answer { is_ok result ≡ may_write (raw_tables self.old) }
@@ -68,7 +63,7 @@ impl RawBoard {
         if !self.may_write() {
             return Err(WritesHeld);
         }
-        add_command(&mut self.commands, Command::Write(address, word));
+        append(&mut self.commands, Command::Write(address, word));
         self.writes += 1;
         Ok(())
     }
@@ -80,7 +75,7 @@ impl RawBoard {
     {
         let place = self.order.get(0)?;
         // The order names ready places only.
-        let Place::Ready(read, word) = at(&self.places, place) else {
+        let Place::Ready(read, word) = self.place(place) else {
             return None;
         };
         put(&mut self.places, place, Place::Drawn(read, word));
@@ -92,7 +87,7 @@ impl RawBoard {
         ensures answer { is_ok result ≡ is_drawn (place_at (raw_tables self.old) place) }
         ensures after { raw_tables self.new ≡ finished (raw_tables self.old) place }
     {
-        let Place::Drawn(_, _) = at(&self.places, place) else {
+        let Place::Drawn(_, _) = self.place(place) else {
             return Err(NotDrawn);
         };
         put(&mut self.places, place, Place::Free);
@@ -104,7 +99,7 @@ impl RawBoard {
         ensures answer { is_ok result ≡ is_drawn (place_at (raw_tables self.old) place) }
         ensures after { raw_tables self.new ≡ returned (raw_tables self.old) place }
     {
-        let Place::Drawn(read, word) = at(&self.places, place) else {
+        let Place::Drawn(read, word) = self.place(place) else {
             return Err(NotDrawn);
         };
         self.make_ready(place, read, word);

@@ -1,38 +1,18 @@
-ghost use Rattle.std.specs.Prelude.{◌≡◌, ◌<◌, Some};
+ghost use Rattle.std.specs.Prelude.{◌≡◌, ◌<◌, Some, decimal};
 ghost use Rattle.std.specs.Option.{option_map};
 ghost use Rattle.network.specs.Messages.{below, plain, reading, writing, replying};
 ghost use Rattle.network.specs.Shown.{shown_kind, shown_message};
 
-use super::{Address, Kind, Message, Node};
+use super::{Address, Kind, Message, Node, Number};
 use std::fmt;
 
-impl Node {
-    pub fn new(number: u64) -> Option<Node>
-        ensures { option_map (λ n. n.index) result ≡ below 16 number }
+impl<const LIMIT: u16> Number<LIMIT> {
+    // Not a TryFrom: as with `NonZero::new`, there is nothing to say of a refusal.
+    pub fn new(number: u64) -> Option<Number<LIMIT>>
+        ensures { option_map (λ n. n.index) result ≡ below LIMIT number }
     {
-        if number < 16 {
-            Some(Node {
-                index: number as u8,
-            })
-        } else {
-            None
-        }
-    }
-
-    pub fn index(self) -> usize
-        ensures value { result ≡ self.index }
-        ensures bound { result < 16 }
-    {
-        usize::from(self.index)
-    }
-}
-
-impl Address {
-    pub fn new(number: u64) -> Option<Address>
-        ensures { option_map (λ a. a.index) result ≡ below 1024 number }
-    {
-        if number < 1024 {
-            Some(Address {
+        if number < u64::from(LIMIT) {
+            Some(Number {
                 index: number as u16,
             })
         } else {
@@ -41,10 +21,18 @@ impl Address {
     }
 
     pub fn index(self) -> usize
-        ensures value { result ≡ self.index }
-        ensures bound { result < 1024 }
+        ensures value { result ≡ self.entry.index }
+        ensures bound { result < LIMIT }
     {
         usize::from(self.index)
+    }
+}
+
+impl<const LIMIT: u16> From<Number<LIMIT>> for u64 {
+    ghost from_gives = { λ n number. number ≡ n.index };
+
+    fn from(n: Number<LIMIT>) -> u64 {
+        u64::from(n.index)
     }
 }
 
@@ -53,8 +41,8 @@ impl Message {
     pub(crate) fn blank() -> Message
         ensures { plain result ≡ reading 0 0 0 }
     {
-        let node = Node { index: 0 };
-        Message::read(node, Address { index: 0 }, node)
+        let node = Number { index: 0 };
+        Message::read(node, Number { index: 0 }, node)
     }
 
     // The node `from` asks the home of the address for its word.
@@ -127,6 +115,14 @@ impl Message {
     }
 }
 
+impl<const LIMIT: u16> fmt::Display for Number<LIMIT> {
+    ghost output = { λ n. Some (decimal n.index) };
+
+    fn fmt<W: fmt::Write>(&self, f: &mut fmt::Formatter<W>) -> fmt::Result {
+        write!(f, "{}", self.index)
+    }
+}
+
 impl fmt::Display for Kind {
     ghost output = { λ kind. Some (shown_kind kind) };
 
@@ -143,14 +139,10 @@ impl fmt::Display for Message {
     ghost output = { λ m. Some (shown_message (plain m)) };
 
     fn fmt<W: fmt::Write>(&self, f: &mut fmt::Formatter<W>) -> fmt::Result {
-        let kind = self.kind;
-        let to = self.to.index;
-        let from = self.from.index;
-        let address = self.address.index;
-        let word = self.word;
         write!(
             f,
-            "{kind} from {from} to {to}, address {address}, word {word}"
+            "{} from {} to {}, address {}, word {}",
+            self.kind, self.from, self.to, self.address, self.word
         )
     }
 }

@@ -4,20 +4,16 @@ ghost use Rattle.system.specs.Systems.{asked};
 ghost use Rattle.session.specs.Results.{Tells};
 
 use super::Session;
+use lines::Continuation;
 use network::Network;
 use script::Answer;
-use system::SystemFault;
+use system::{Sizes, SystemFault};
 
 impl<N: Network> Session<N> {
-    pub(super) fn start(
-        &mut self,
-        nodes: u64,
-        lines: u64,
-        cells: u64,
-    ) -> Result<Answer, SystemFault>
-        ensures { Tells N.Network self.old.system (start nodes lines cells) result self.new.system }
+    pub(super) fn start(&mut self, sizes: Sizes) -> Result<Answer, SystemFault>
+        ensures { Tells N.Network self.old.system (start sizes.nodes sizes.lines sizes.cells) result self.new.system }
     {
-        self.system.start(nodes, lines, cells)?;
+        self.system.start(sizes)?;
         Ok(Answer::Done)
     }
 
@@ -25,12 +21,11 @@ impl<N: Network> Session<N> {
         &mut self,
         node: u64,
         address: u64,
-        frame: u32,
-        instruction: u32,
+        continuation: Continuation,
     ) -> Result<Answer, SystemFault>
-        ensures { Tells N.Network self.old.system (read node (asked address frame instruction)) result self.new.system }
+        ensures { Tells N.Network self.old.system (read node (asked address continuation.frame continuation.instruction)) result self.new.system }
     {
-        let place = self.system.read(node, address, frame, instruction)?;
+        let place = self.system.read(node, address, continuation)?;
         Ok(Answer::Place(place as u64))
     }
 

@@ -15,19 +15,21 @@ impl<N: Network> Session<N> {
         self.parking.park(token);
         Ok(Answer::Drawn {
             place: answer.place as u64,
-            address: answer.read.address.index() as u64,
+            address: u64::from(answer.read.address),
             word: answer.word,
             frame: answer.read.continuation.frame,
             instruction: answer.read.continuation.instruction,
         })
     }
 
+    // Finish and put back differ in one call; a closure for it, with its contract, is longer than either.
     pub(super) fn finish(&mut self, node: u64, place: u64) -> Result<Answer, SystemFault>
         ensures { Tells N.Network self.old.system (finish node place) result self.new.system }
     {
-        let Some(token) = self.parking.take_up(node, place) else {
-            return Err(self.system.undrawn(node));
-        };
+        let token = self
+            .parking
+            .take_up(node, place)
+            .ok_or_else(|| self.system.undrawn(node))?;
         self.system.finish(token)?;
         Ok(Answer::Done)
     }
@@ -35,9 +37,10 @@ impl<N: Network> Session<N> {
     pub(super) fn put_back(&mut self, node: u64, place: u64) -> Result<Answer, SystemFault>
         ensures { Tells N.Network self.old.system (put_back node place) result self.new.system }
     {
-        let Some(token) = self.parking.take_up(node, place) else {
-            return Err(self.system.undrawn(node));
-        };
+        let token = self
+            .parking
+            .take_up(node, place)
+            .ok_or_else(|| self.system.undrawn(node))?;
         self.system.put_back(token)?;
         Ok(Answer::Done)
     }

@@ -5,9 +5,11 @@ ghost use Rattle.session.specs.Sessions.{call_of, Answers, KeepsLaw};
 
 use super::Session;
 use crate::fault::SessionFault;
+use lines::Continuation;
 use network::Network;
+use refusals::Refusal;
 use script::{Answer, Call, Line};
-use system::SystemFault;
+use system::{Sizes, SystemFault};
 
 impl<N: Network> Session<N> {
     fn call(&mut self, call: Call) -> Result<Answer, SystemFault>
@@ -18,13 +20,20 @@ impl<N: Network> Session<N> {
                 nodes,
                 lines,
                 cells,
-            } => self.start(nodes, lines, cells),
+            } => self.start(Sizes {
+                nodes,
+                lines,
+                cells,
+            }),
             Call::Read {
                 node,
                 address,
                 frame,
                 instruction,
-            } => self.read(node, address, frame, instruction),
+            } => {
+                let continuation = Continuation { frame, instruction };
+                self.read(node, address, continuation)
+            }
             Call::Write {
                 node,
                 address,
@@ -43,8 +52,7 @@ impl<N: Network> Session<N> {
         ensures { Answers N.Network self.old (told line.entry) (whole result) self.new }
     {
         let call = line.call()?;
-        let answer = self.call(call)?;
-        Ok(answer)
+        Ok(self.call(call)?)
     }
 
     // Makes the call that the line writes, and tells its answer. A line that writes none is refused with 6.
@@ -52,9 +60,7 @@ impl<N: Network> Session<N> {
         ensures answer { Answers N.Network self.old (told line.entry) result self.new }
         ensures law { KeepsLaw N.Network self.old.system self.new.system }
     {
-        match self.run(line) {
-            Ok(answer) => answer,
-            Err(fault) => Answer::Refused(fault.refusal()),
-        }
+        self.run(line)
+            .unwrap_or_else(|fault| Answer::Refused(Refusal::from(fault)))
     }
 }

@@ -1,105 +1,82 @@
-// A fault as plain numbers.
+// What each fault tells: its number, its layer, and the node and the address that it names.
 ghost use Rattle.std.specs.Prelude.{◌≡◌};
+ghost use Rattle.refusals.specs.Refusals.{by_layer, naming_address, naming_node};
 ghost use Rattle.system.specs.Faults.{refusal_of};
-ghost use Rattle.system.specs.Told.{told_refusal};
+ghost use Rattle.system.specs.Refusals.{scripted};
+ghost use Rattle.system.specs.declared.fault.SystemFault.TheVariants.{Array};
 
 use super::{CreateFault, SystemFault};
 use home::WrittenTwice;
 use lines::LineFault;
+use network::{Address, Node};
+use refusals::{Layer, Refusal};
 
-// The layer that refuses.
-#[derive(Clone, Copy)]
-pub enum Layer {
-    System,
-    Lines,
-    Home,
-    Array,
-}
-
-// The number of a refusal, its layer, and the node and the address that it names.
-#[derive(Clone, Copy)]
-pub struct Refusal {
-    pub number: u8,
-    pub layer: Layer,
-    pub node: Option<u64>,
-    pub address: Option<u64>,
-}
-
-fn of_system(number: u8, node: Option<u64>, address: Option<u64>) -> Refusal
-    ensures { result ≡ record { number = number; layer = Layer.System; node = node; address = address } }
+fn of_system(number: u64) -> Refusal
+    ensures { result ≡ by_layer Layer.System number }
 {
-    Refusal {
-        number,
-        layer: Layer::System,
-        node,
-        address,
-    }
+    Refusal::new(Layer::System, number)
 }
 
+fn at_cell(layer: Layer, number: u64, node: Node, address: Address) -> Refusal
+    ensures { result ≡ naming_address address.index (naming_node node.index (by_layer layer number)) }
+{
+    Refusal::new(layer, number)
+        .with_node(u64::from(node))
+        .with_address(u64::from(address))
+}
+
+// A function, and no `From`: neither a line's or home's fault nor `Refusal` is of this crate.
 fn of_lines(fault: LineFault) -> Refusal
-    ensures { told_refusal result ≡ refusal_of (SystemFault.Lines fault) }
+    ensures { result ≡ scripted (refusal_of (SystemFault.Lines fault)) }
 {
-    let (number, node, address) = match fault {
-        LineFault::EveryLineWaits(node, address) => (25, node, address),
-        LineFault::WrittenTwice(node, address) => (29, node, address),
-    };
-    Refusal {
-        number,
-        layer: Layer::Lines,
-        node: Some(node.index() as u64),
-        address: Some(address.index() as u64),
+    match fault {
+        LineFault::EveryLineWaits(node, address) => at_cell(Layer::Lines, 25, node, address),
+        LineFault::WrittenTwice(node, address) => at_cell(Layer::Lines, 29, node, address),
     }
 }
 
 fn of_home(fault: WrittenTwice) -> Refusal
-    ensures { told_refusal result ≡ refusal_of (SystemFault.Home fault) }
+    ensures { result ≡ scripted (refusal_of (SystemFault.Home fault)) }
 {
-    Refusal {
-        number: 30,
-        layer: Layer::Home,
-        node: Some(fault.writer().index() as u64),
-        address: Some(fault.address().index() as u64),
+    at_cell(Layer::Home, 30, fault.writer(), fault.address())
+}
+
+impl From<CreateFault> for Refusal {
+    ghost from_gives = { λ fault refusal. refusal ≡ scripted (refusal_of (Array fault)) };
+
+    fn from(fault: CreateFault) -> Refusal {
+        match fault {
+            CreateFault::BadSize => Refusal::new(Layer::Array, 1),
+            CreateFault::NoRoom => Refusal::new(Layer::Array, 31),
+        }
     }
 }
 
-fn of_array(fault: CreateFault) -> Refusal
-    ensures { told_refusal result ≡ refusal_of (SystemFault.Array fault) }
-{
-    let number = match fault {
-        CreateFault::BadSize => 1,
-        CreateFault::NoRoom => 31,
-    };
-    Refusal {
-        number,
-        layer: Layer::Array,
-        node: None,
-        address: None,
-    }
-}
+impl From<SystemFault> for Refusal {
+    ghost from_gives = { λ fault refusal. refusal ≡ scripted (refusal_of fault) };
 
-impl SystemFault {
-    pub fn refusal(self) -> Refusal
-        ensures { told_refusal result ≡ refusal_of self }
-    {
-        match self {
-            SystemFault::BadSize => of_system(1, None, None),
-            SystemFault::NoSuchNode(node) => of_system(2, Some(node), None),
-            SystemFault::NoSuchAddress(node, address) => of_system(3, Some(node), Some(address)),
-            SystemFault::NoSuchCommand(node) => of_system(4, Some(node), None),
-            SystemFault::NotDrawn(node) => of_system(5, Some(node), None),
-            SystemFault::NotStarted => of_system(20, None, None),
-            SystemFault::StartedAlready => of_system(21, None, None),
-            SystemFault::NetworkUnfit => of_system(22, None, None),
-            SystemFault::PlacesTaken(node) => of_system(23, Some(node), None),
-            SystemFault::WritesHeld(node) => of_system(24, Some(node), None),
-            SystemFault::NetworkFull(node, address) => {
-                of_system(26, Some(node), Some(address.index() as u64))
+    fn from(fault: SystemFault) -> Refusal {
+        match fault {
+            SystemFault::BadSize => of_system(1),
+            SystemFault::NoSuchNode(node) => of_system(2).with_node(node),
+            SystemFault::NoSuchAddress(node, address) => {
+                of_system(3).with_node(node).with_address(address)
             }
-            SystemFault::NothingInTransit => of_system(27, None, None),
-            SystemFault::NothingReady(node) => of_system(28, Some(node), None),
+            SystemFault::NoSuchCommand(node) => of_system(4).with_node(node),
+            SystemFault::NotDrawn(node) => of_system(5).with_node(node),
+            SystemFault::NotStarted => of_system(20),
+            SystemFault::StartedAlready => of_system(21),
+            SystemFault::NetworkUnfit => of_system(22),
+            SystemFault::PlacesTaken(node) => of_system(23).with_node(node),
+            SystemFault::WritesHeld(node) => of_system(24).with_node(node),
+            SystemFault::NetworkFull(node, address) => of_system(26)
+                .with_node(node)
+                .with_address(u64::from(address)),
+            SystemFault::NothingInTransit => of_system(27),
+            SystemFault::NothingReady(node) => of_system(28).with_node(node),
             SystemFault::Lines(fault) => of_lines(fault),
             SystemFault::Home(fault) => of_home(fault),
-            SystemFault::Array(fault) => of_array(fault),
+            SystemFault::Array(fault) => Refusal::from(fault),
         }
     }
 }

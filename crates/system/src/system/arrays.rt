@@ -21,9 +21,7 @@ impl<N: Network> System<N> {
     pub fn create(&mut self, kind: u64, length: u64) -> Result<usize, SystemFault>
         ensures { Called N.Network self.old (create kind length) (answered (create kind length) (λ base. created kind length base) result) self.new }
     {
-        if self.nodes == 0 {
-            return Err(SystemFault::NotStarted);
-        }
+        self.check_started()?;
         if bad_array(kind, length) {
             return Err(SystemFault::Array(CreateFault::BadSize));
         }

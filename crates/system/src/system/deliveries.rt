@@ -4,7 +4,6 @@ ghost use Rattle.system.specs.Systems.{answered};
 ghost use Rattle.system.specs.Through.{Called};
 
 use super::System;
-use super::at::reply_at;
 use super::offers::offer_all;
 use crate::fault::SystemFault;
 use network::{Kind, Network};
@@ -14,14 +13,16 @@ impl<N: Network> System<N> {
     pub fn deliver(&mut self, pick: u64) -> Result<usize, SystemFault>
         ensures { Called N.Network self.old (deliver pick) (answered (deliver pick) (λ count. delivered pick count) result) self.new }
     {
-        if self.nodes == 0 {
-            return Err(SystemFault::NotStarted);
-        }
-        let Some(message) = self.network.take(pick) else {
-            return Err(SystemFault::NothingInTransit);
-        };
+        self.check_started()?;
+        let message = self
+            .network
+            .take(pick)
+            .ok_or(SystemFault::NothingInTransit)?;
         match message.kind() {
-            Kind::Reply => Ok(reply_at(&mut self.boards, message)),
+            Kind::Reply => {
+                let boards = &mut self.boards;
+                Ok(boards[message.to().index()].reply(message.address(), message.word()))
+            }
             Kind::Read | Kind::Write => {
                 let replies = self.memory.receive(message)?;
                 offer_all(&mut self.network, replies);

@@ -6,7 +6,6 @@ ghost use Rattle.system.specs.Systems.{answered};
 ghost use Rattle.system.specs.Through.{Called};
 
 use super::System;
-use super::at::{draw_at, finish_at, put_back_at};
 use crate::drawn::Drawn;
 use crate::fault::SystemFault;
 use lines::Answer;
@@ -18,11 +17,10 @@ impl<N: Network> System<N> {
         ensures call { Called N.Network self.old (draw node) (answered (draw node) (λ x. at node (drew x.1.place (plain_read x.1.read) x.1.word)) result) self.new }
         ensures token { IfOk result (λ x. (x.0.node ≡ node) × (x.0.place ≡ x.1.place)) }
     {
-        self.check_node(node)?;
-        match draw_at(&mut self.boards, node as usize) {
-            Some(answer) => Ok((Drawn::new(node as usize, answer.place), answer)),
-            None => Err(SystemFault::NothingReady(node)),
-        }
+        let at = self.check_node(node)?.index();
+        let boards = &mut self.boards;
+        let answer = boards[at].draw().ok_or(SystemFault::NothingReady(node))?;
+        Ok((Drawn::new(at, answer.place), answer))
     }
 
     // Ends the read of a drawn place, which is free then.
@@ -31,21 +29,22 @@ impl<N: Network> System<N> {
     {
         let Drawn { node, place } = drawn;
         self.check_node(node as u64)?;
-        match finish_at(&mut self.boards, node, place) {
-            Ok(()) => Ok(()),
-            Err(_) => Err(SystemFault::NotDrawn(node as u64)),
-        }
+        let boards = &mut self.boards;
+        boards[node]
+            .finish(place)
+            .map_err(|_| SystemFault::NotDrawn(node as u64))
     }
 
     // Makes a drawn place ready again, behind the others.
+    // (It differs from a finish in one word; one function of both would need a contract on its closure, longer than this.)
     pub fn put_back(&mut self, drawn: Drawn) -> Result<(), SystemFault>
         ensures { Called N.Network self.old (put_back drawn.node drawn.place) (answered (put_back drawn.node drawn.place) (λ _. at drawn.node (returned drawn.place)) result) self.new }
     {
         let Drawn { node, place } = drawn;
         self.check_node(node as u64)?;
-        match put_back_at(&mut self.boards, node, place) {
-            Ok(()) => Ok(()),
-            Err(_) => Err(SystemFault::NotDrawn(node as u64)),
-        }
+        let boards = &mut self.boards;
+        boards[node]
+            .put_back(place)
+            .map_err(|_| SystemFault::NotDrawn(node as u64))
     }
 }

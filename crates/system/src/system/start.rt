@@ -15,13 +15,23 @@ use network::Network;
 pub(super) fn outside(most: u64, number: u64) -> bool
     ensures { result ≡ outside most number }
 {
-    number == 0 || number > most
+    !(1..=most).contains(&number)
 }
 
-fn bad_sizes(nodes: u64, lines: u64, cells: u64) -> bool
-    ensures { result ≡ (outside 16 nodes || (outside 16 lines || outside 64 cells)) }
-{
-    outside(16, nodes) || outside(16, lines) || outside(64, cells)
+// How large a memory is to be: its nodes, and the lines and the cells of each.
+#[derive(Clone, Copy)]
+pub struct Sizes {
+    pub nodes: u64,
+    pub lines: u64,
+    pub cells: u64,
+}
+
+impl Sizes {
+    fn are_bad(self) -> bool
+        ensures { result ≡ (outside 16 self.nodes || (outside 16 self.lines || outside 64 self.cells)) }
+    {
+        outside(16, self.nodes) || outside(16, self.lines) || outside(64, self.cells)
+    }
 }
 
 // Whether a network cannot serve: it holds something, or may hold too little.
@@ -49,21 +59,21 @@ impl<N: Network> System<N> {
     }
 
     // Puts 1 to 16 nodes to work, each with 1 to 16 lines and 1 to 64 cells.
-    pub fn start(&mut self, nodes: u64, lines: u64, cells: u64) -> Result<(), SystemFault>
-        ensures { Called N.Network self.old (start nodes lines cells) (answered (start nodes lines cells) (λ _. started nodes lines cells) result) self.new }
+    pub fn start(&mut self, sizes: Sizes) -> Result<(), SystemFault>
+        ensures { Called N.Network self.old (start sizes.nodes sizes.lines sizes.cells) (answered (start sizes.nodes sizes.lines sizes.cells) (λ _. started sizes.nodes sizes.lines sizes.cells) result) self.new }
     {
         if self.nodes != 0 {
             return Err(SystemFault::StartedAlready);
         }
-        if bad_sizes(nodes, lines, cells) {
+        if sizes.are_bad() {
             return Err(SystemFault::BadSize);
         }
         if unfit(&self.network) {
             return Err(SystemFault::NetworkUnfit);
         }
-        let board = Board::new(lines as usize).unwrap();
-        self.nodes = nodes as usize;
-        self.cells = cells as usize;
+        let board = Board::new(sizes.lines as usize).unwrap();
+        self.nodes = sizes.nodes as usize;
+        self.cells = sizes.cells as usize;
         self.boards = [board; 16];
         self.memory = Memory::undefined();
         self.end = 0;

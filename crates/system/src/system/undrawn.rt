@@ -12,9 +12,8 @@ impl<N: Network> System<N> {
     pub fn undrawn(&self, node: u64) -> SystemFault
         ensures { Undrawn (moment N.Network self.now) node (refusal_of result) }
     {
-        match self.check_node(node) {
-            Ok(()) => SystemFault::NotDrawn(node),
-            Err(fault) => fault,
-        }
+        self.check_node(node)
+            .err()
+            .unwrap_or(SystemFault::NotDrawn(node))
     }
 }

@@ -1,4 +1,4 @@
-use Rattle.std.proofs.Common.{◌≡◌, sym, ap, ◌∙◌, arith}
+use Rattle.std.proofs.Common.{◌≡◌, sym, ap, ◌∙◌, arith, rules}
 use lib.Ieee.{binary32, to_bits, of_bits, div}
 use lib.Ieee.Bits.{of_bits-to_bits}
 use Rattle.protocol.proofs.EdgeCases as memory
@@ -17,7 +17,7 @@ returns c = record {
       let stored : to_bits binary32 e ≡ 0x7FC00000 =
       ap (to_bits binary32) (sym (of_bits-to_bits binary32 e g) ∙ ap (of_bits binary32) p) in
       omega arith);
-  array = c.array_word.ensures;
+  array = search rules;
   not_an_array = refusal _ _ _ _ c.open-2.ensures (λ e g p. omega arith);
   memory = memory.edges;
 }

@@ -1,16 +1,12 @@
-use Rattle.std.proofs.Common.{sym, ap, ◌∙◌, arith}
-use Rattle.network.proofs.Oldest.{hit, miss, end}
+use Rattle.std.proofs.Common.{◌≡◌, length, ◌==◌, ◌∙◌, rules}
+use borrow.Author.Tests.{tests}
+use Rattle.std.proofs.lemmas.Iterator.{YieldsList-from_slice}
+use Rattle.std.proofs.lemmas.Iterator.Search.{position_from_yields_List}
+use Rattle.network.proofs.Oldest.{searched}
 use Rattle.network.proofs.lanes.first_to.Goals as goal
 
-pub returns-then-index-lane : goal.returns-then-index-lane
-returns-then-index-lane c =
-    let to = sym (ap (λ n. n.index) c.to.ensures) ∙ sym c.index.ensures.value in
-    omega (arith, hit _ _ _ _ c.loop-i.invariant _ c.loop-i-test.true c.index-messages-i.is (to ∙ c.if-index-lane.true))
-
-pub loop-i-preserved : goal.loop-i-preserved
-loop-i-preserved c =
-    let to = c.index.ensures.value ∙ ap (λ n. n.index) c.to.ensures in
-    miss _ _ _ _ c.loop-i.invariant _ c.loop-i-test.true c.index-messages-i.is (λ e. c.if-index-lane.false (to ∙ e))
-
 pub returns : goal.returns
-returns c = end _ _ _ _ c.loop-i.invariant c.loop-i-test.false c.loop-i.auto.i-end
+returns c =
+    let ms = c.args.messages.now in
+    let found = position_from_yields_List (λ m. m.to.index == c.args.lane) _ _ c.position.result c.position.ensures.ran (YieldsList-from_slice ms (search rules)) (λ x b q k. search (rules, tests)) in
+    c.unwrap_or.ensures ∙ searched c.args.lane ms c.position.result found

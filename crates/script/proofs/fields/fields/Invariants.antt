@@ -1,6 +1,5 @@
-use Rattle.std.proofs.Common.{◌≡◌, length}
 use Rattle.script.proofs.Commas.{Sofar, pending}
 use Rattle.script.proofs.fields.fields.Given as goal
 
 abbrev pub invariant-loop-i : goal.invariant-loop-i
-invariant-loop-i g l = Sofar l.text l.values l.i (pending l.i l.rest) × (length l.values ≡ g.row.N)
+invariant-loop-i g l = Sofar g.row.N l.text l.value-items l.i (pending l.i l.rest)

@@ -3,4 +3,4 @@ use Rattle.std.proofs.Output.{has_written_of_eq}
 use Rattle.home.proofs.cell.WrittenTwiceDisplay.fmt.Goals as goal
 
 pub returns-clause-writes : goal.returns-clause-writes
-returns-clause-writes g c plain ok = has_written_of_eq g.W.Write.write_str_gives _ _ _ _ (simp (append_assoc, c.index-writer.ensures.value, c.index-address.ensures.value)) (c.write.ensures.writes plain ok)
+returns-clause-writes g c plain ok = has_written_of_eq g.W.Write.write_str_gives _ _ _ _ (simp append_assoc) (c.write.ensures.writes plain ok)

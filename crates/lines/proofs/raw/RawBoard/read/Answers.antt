@@ -1,19 +1,16 @@
-use Rattle.std.proofs.Common.{map, sym, ap, arith}
+use Rattle.std.proofs.Common.{◌≡◌, Some, arith, lit<}
 use Rattle.bounded.specs.Listed.{listed}
-use Rattle.lines.specs.Model.{writes, reading}
+use Rattle.std.proofs.lemmas.List.{length-map}
+use Rattle.lines.specs.Model.{free_place}
 use Rattle.lines.specs.Plain.{plain_command}
 use Rattle.lines.specs.Raws.{raw_tables}
-use Rattle.lines.proofs.Counts.{writes_push}
 use Rattle.lines.proofs.Room.{read_room}
 use Rattle.lines.proofs.raw.RawBoard.read.Goals as goal
 
-pub add_command-requires : goal.add_command-requires
-add_command-requires c = read_room (raw_tables c.args.self.now) c.in-Some.place c.requires (sym c.in-Some.ensures)
-
-pub invariant_of-self : goal.invariant_of-self
-invariant_of-self c =
-    let s = c.args.self.now in
-    let e = s.counted in
-    let n = ap writes c.add_command.ensures in
-    let w = writes_push (map plain_command (listed s.commands)) (reading c.in-Some.place) in
-    record { counted = omega arith }
+pub append-requires : goal.append-requires
+append-requires c =
+    let t = raw_tables c.args.self.now in
+    let found : free_place t ≡ Some c.in_ok-place.place = grind arith in
+    let room = read_room t c.in_ok-place.place c.requires found in
+    let same = length-map (listed c.args.self.now.commands) plain_command in
+    (lit< tt, omega arith)

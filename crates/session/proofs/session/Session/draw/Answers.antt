@@ -1,7 +1,11 @@
 use Rattle.lines.specs.Plain.{plain_read}
 use Rattle.protocol.specs.Moments.{draw}
-use Rattle.session.proofs.Keeps.{parks_drawn}
+use Rattle.session.proofs.Keeps.{parks_drawn, parks_refused}
 use Rattle.session.proofs.session.Session.draw.Goals as goal
+
+pub invariant_of-self : goal.invariant_of-self
+invariant_of-self g c =
+    let was = c.args.self.now in parks_refused was.system c.draw.new.self was.parking.places was.parked was.at_work c.in_err-token.ensures.call
 
 pub invariant_of-self-2 : goal.invariant_of-self-2
 invariant_of-self-2 g c =

@@ -1,59 +1,60 @@
-use Rattle.std.proofs.Common.{◌+◌, map, set, sym, refl, ◌∙◌, subst}
+use Rattle.std.proofs.Common.{◌≡◌, ◌+◌, ◌<◌, length, map, rules, set, refl, ◌∙◌, subst, arith}
 use Rattle.std.specs.Option.{option_map}
-use Rattle.std.proofs.lemmas.Result.{err_from_is_err_and}
 use Rattle.network.specs.Bags.{Offered}
 use Rattle.network.specs.Messages.{plain}
 use Rattle.lines.specs.Boards.{tables}
 use Rattle.lines.specs.Model as board
 use Rattle.lines.specs.Plain.{plain_outgoing}
-use Rattle.protocol.specs.Moments.{act, board_at}
+use Rattle.protocol.specs.Moments.{act}
 use Rattle.system.specs.Systems.{moment}
 use Rattle.system.specs.Through.{Offers}
 use Rattle.system.proofs.Acting.{acts_on, acts_not, goes_so}
-use Rattle.system.proofs.Numbers.{named_so}
+use Rattle.system.proofs.Boards.{there, left_there}
 use Rattle.system.proofs.Steps.{stopped, with_boards}
 use Rattle.system.proofs.system.System.act.Goals as goal
 
-pub returns-in_err-check_node : goal.returns-in_err-check_node
-returns-in_err-check_node g c =
-    let m = moment g.N.Network c.args.self.now in
+pub returns-in_err-me : goal.returns-in_err-me
+returns-in_err-me g c =
     let call = act c.args.node c.args.pick in
-    stopped g.N.Network {m = m} call _ c.in_err-check_node.field-0.0 c.from_residual.result (err_from_is_err_and c.from_residual.result c.from_residual.ensures.1) (refl, refl) (refl, refl)
-    (c.in_err-check_node.ensures.rule call _) refl
+    stopped g.N.Network c.args.self.now call _ c.in_err-me.field-0.0 c.from_residual.result c.from_residual.ensures.1 (refl, refl) (refl, refl) (c.in_err-me.ensures.rule call _)
 
 pub returns-in_err-done : goal.returns-in_err-done
 returns-in_err-done g c =
     let net = g.N.Network in
-    let m = moment net c.args.self.now in
+    let s = c.args.self.now in
+    let m = moment net s in
     let n = c.args.node in
     let k = c.args.pick in
     let l = c.count.result + c.waiting.result in
-    let me = named_so (λ x. x.index) 16 n c.new.result c.new.ensures c.in_ok-check_node.ensures.within.0 c.unwrap-me.result c.unwrap-me.ensures in
-    let limit = c.limit-limit.ensures in
-    acts_not net c.args.self.now.network m refl (g.met.N.Network.small c.args.self.now.network) n k c.in_ok-check_node.ensures.within.1 (λ o. c.in_ok-check_node.ensures.rule (act n k) o)
-    l (λ i. c.count.ensures i + c.waiting.ensures.value i) c.act_at-answer.result _
-    (c.act_at-answer.ensures.answer ∙ (λ i. (board.acted (me i) (board_at m (me i)) k l (limit i)).answer))
-    (c.act_at-answer.ensures.boards ∙ (λ i. set m.boards (me i) (board.acted (me i) (board_at m (me i)) k l (limit i)).after))
-    c.in_err-done.field-0.0 c.from_residual-in_err-done.result (sym c.whole.ensures ∙ c.in_err-done.was)
-    (err_from_is_err_and c.from_residual-in_err-done.result c.from_residual-in_err-done.ensures.1)
+    let me = c.in_ok-me.ensures.within.0 in
+    let same : c.index.result ≡ n = c.index.ensures.value ∙ me in
+    let lt : c.index.result < length s.boards = omega arith in
+    let at-node = there s.boards same c.index-boards-index.result lt in
+    acts_not net s.network m refl (g.met.N.Network.small s.network) n k c.in_ok-me.ensures.within.1 (λ o. c.in_ok-me.ensures.rule (act n k) o)
+    l (λ i. c.count.ensures i + c.waiting.ensures.value i) c.act.result _
+    (c.act.ensures.answer ∙ (λ i. (board.acted (me i) (at-node i) k l (c.limit.ensures i)).answer))
+    (left_there s.boards same c.act.new.self (c.act.ensures.after ∙ (λ i. (board.acted (me i) (at-node i) k l (c.limit.ensures i)).after)))
+    c.in_err-done.field-0.0 c.from_residual-in_err-done.result (search rules) c.from_residual-in_err-done.ensures.1
 
 pub returns : goal.returns
 returns g c =
     let net = g.N.Network in
-    let m = moment net c.args.self.now in
+    let s = c.args.self.now in
+    let m = moment net s in
     let n = c.args.node in
     let k = c.args.pick in
     let l = c.count.result + c.waiting.result in
     let d = c.in_ok-done.done in
-    let first = c.args.self.now.network in
     let last = c.offer_one.new.network in
-    let me = named_so (λ x. x.index) 16 n c.new.result c.new.ensures c.in_ok-check_node.ensures.within.0 c.unwrap-me.result c.unwrap-me.ensures in
-    let limit = c.limit-limit.ensures in
-    let out = c.message-message.ensures ∙ (λ i. goes_so (with_boards m (map tables c.act_at-answer.new.boards)) m (me i) (option_map plain_outgoing d.sends) refl i) in
-    acts_on net first m refl (g.met.N.Network.small first) n k c.in_ok-check_node.ensures.within.1 (λ o. c.in_ok-check_node.ensures.rule (act n k) o)
-    l (λ i. c.count.ensures i + c.waiting.ensures.value i) c.act_at-answer.result _
-    (c.act_at-answer.ensures.answer ∙ (λ i. (board.acted (me i) (board_at m (me i)) k l (limit i)).answer))
-    (c.act_at-answer.ensures.boards ∙ (λ i. set m.boards (me i) (board.acted (me i) (board_at m (me i)) k l (limit i)).after))
-    d last (sym c.whole.ensures ∙ c.in_ok-done.was)
-    (subst (λ ms. Offers net first ms last) out c.offer_one.ensures.offers)
-    (subst (λ ms. Offered m.limit (map plain (net.bag first)) ms (map plain (net.bag last))) out c.offer_one.ensures.bag) c.offer_one.ensures.bound
+    let me = c.in_ok-me.ensures.within.0 in
+    let same : c.index.result ≡ n = c.index.ensures.value ∙ me in
+    let lt : c.index.result < length s.boards = omega arith in
+    let at-node = there s.boards same c.index-boards-index.result lt in
+    let out = c.message-message.ensures ∙ (λ i. goes_so (with_boards m (map tables (set s.boards c.index.result c.act.new.self))) m (me i) (option_map plain_outgoing d.sends) refl i) in
+    acts_on net s.network m refl (g.met.N.Network.small s.network) n k c.in_ok-me.ensures.within.1 (λ o. c.in_ok-me.ensures.rule (act n k) o)
+    l (λ i. c.count.ensures i + c.waiting.ensures.value i) c.act.result _
+    (c.act.ensures.answer ∙ (λ i. (board.acted (me i) (at-node i) k l (c.limit.ensures i)).answer))
+    (left_there s.boards same c.act.new.self (c.act.ensures.after ∙ (λ i. (board.acted (me i) (at-node i) k l (c.limit.ensures i)).after)))
+    d last (search rules)
+    (subst (λ ms. Offers net s.network ms last) out c.offer_one.ensures.offers)
+    (subst (λ ms. Offered m.limit (map plain (net.bag s.network)) ms (map plain (net.bag last))) out c.offer_one.ensures.bag) c.offer_one.ensures.bound

@@ -1,37 +1,30 @@
-use Rattle.std.proofs.Common.{set, Some, sym, refl, ap, ◌∙◌}
-use Rattle.std.proofs.lemmas.Result.{err_from_is_err_and}
-use Rattle.lines.specs.Model.{Read, given}
-use Rattle.protocol.specs.Moments.{read, board_at}
-use Rattle.protocol.specs.Steps.{reads}
-use Rattle.system.specs.Systems.{moment}
-use Rattle.system.proofs.Steps.{quiet_board, unmoved, stopped}
+use Rattle.std.proofs.Common.{◌≡◌, ℕ, ◌<◌, length, rules, refl, ap, ◌∙◌, arith}
+use Rattle.lines.specs.Model.{free_place, given}
+use Rattle.protocol.specs.Moments.{read, at, accepted, board_at}
+use Rattle.system.specs.declared.fault.SystemFault.TheVariants.{PlacesTaken}
+use Rattle.system.specs.Systems.{moment, asked}
+use Rattle.system.proofs.Boards.{there, left_there, tried, reads_so}
+use Rattle.system.proofs.Steps.{stopped}
 use Rattle.system.proofs.system.System.read.Goals as goal
 
-pub returns-in_err-address : goal.returns-in_err-address
-returns-in_err-address g c =
-    let m = moment g.N.Network c.args.self.now in
-    let q : Read = record { address = c.args.address; frame = c.args.frame; instruction = c.args.instruction } in
-    let call = read c.args.node q in
-    stopped g.N.Network {m = m} call _ c.in_err-address.field-0.0 c.from_residual.result (err_from_is_err_and c.from_residual.result c.from_residual.ensures.1) (refl, refl) (refl, refl)
-    (c.in_err-address.ensures.rule call _) refl
+pub returns-in_err-at : goal.returns-in_err-at
+returns-in_err-at g c =
+    let call = read c.args.node (asked c.args.address c.args.continuation.frame c.args.continuation.instruction) in
+    stopped g.N.Network c.args.self.now call _ c.in_err-at.field-0.0 c.from_residual.result c.from_residual.ensures.1 (refl, refl) (refl, refl) (c.in_err-at.ensures.rule call _)
 
-pub returns-in-Ok : goal.returns-in-Ok
-returns-in-Ok g c =
-    let m = moment g.N.Network c.args.self.now in
+pub returns : goal.returns
+returns g c =
+    let s = c.args.self.now in
+    let m = moment g.N.Network s in
     let n = c.args.node in
-    let of : _ → Read = λ a. record { address = a; frame = c.args.frame; instruction = c.args.instruction } in
-    let q = of c.args.address in
-    let free = sym c.in-Ok.ensures.answer in
-    let same = ap of c.in_ok-address.ensures.within.1 in
-    quiet_board g.N.Network {m = m} (read n q) _ n (given (board_at m n) q (Some c.in-Ok.place)) (refl, refl) (refl, refl)
-    (c.in-Ok.ensures.boards ∙ (λ i. set m.boards n (given (board_at m n) (same i) (free i))))
-    (c.in_ok-address.ensures.rule (read n q) _ ∙ ap (reads m n q) free) refl
-
-pub returns-in-Err : goal.returns-in-Err
-returns-in-Err g c =
-    let m = moment g.N.Network c.args.self.now in
-    let n = c.args.node in
-    let q : Read = record { address = c.args.address; frame = c.args.frame; instruction = c.args.instruction } in
-    let none = sym c.in-Err.ensures.answer in
-    unmoved g.N.Network {m = m} (read n q) _ n _ (refl, refl) (refl, refl) c.in-Err.ensures.boards (ap (given (board_at m n) _) none)
-    (c.in_ok-address.ensures.rule (read n q) _ ∙ ap (reads m n q) none) refl
+    let q = asked c.args.address c.args.continuation.frame c.args.continuation.instruction in
+    let t = board_at m n in
+    let i = c.index.result in
+    let same : i ≡ n = c.index.ensures.value ∙ c.in_ok-at.ensures.within.0 in
+    let lt : i < length s.boards = omega arith in
+    let at-node = there s.boards same c.index-boards-index.result lt in
+    let of = λ (a : ℕ). asked a c.args.continuation.frame c.args.continuation.instruction in
+    let by = reads_so m n q c.read.result (c.read.ensures.answer ∙ ap free_place at-node) in
+    tried g.N.Network s n (read n q) (refl, refl) (refl, refl) c.read.result (PlacesTaken n) c.map_err.result (λ place. at n (accepted q place)) _ (given t q (free_place t)) (search rules)
+    (left_there s.boards same c.read.new.self (c.read.ensures.after ∙ (λ j. given (at-node j) (of (c.in_ok-at.ensures.within.1 j)) (free_place (at-node j)))))
+    (rw (c.in_ok-at.ensures.rule (read n q) _) by)
