@@ -5,7 +5,7 @@ use crate::element::{Element, NotAnElement};
 use crate::reference::ArrayRef;
 
 // What packing and opening answer at the edges of each kind.
-#[derive(Clone, Copy)]
+#[derive(Clone, Copy, PartialEq)]
 pub struct EdgeWords {
     pub minus_one: u64,
     pub one: u64,

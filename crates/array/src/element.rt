@@ -2,7 +2,7 @@ ghost use Rattle.std.specs.Prelude.{◌≡◌, ℕ, ◌≤◌};
 ghost use Rattle.array.specs.Elements.{Opens};
 
 // The refusal, number 7, of a word that is no element's.
-#[derive(Clone, Copy)]
+#[derive(Clone, Copy, PartialEq, Eq)]
 pub struct NotAnElement;
 
 // What a word can stand for, each kind under a number of its own.

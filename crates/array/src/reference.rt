@@ -4,7 +4,7 @@ mod methods;
 
 // An array within the 1,024 cells: the kind of its elements, the address of the first, and how many there are.
 // A kind is a number and no enum, since each element type brings its own.
-#[derive(Clone, Copy)]
+#[derive(Clone, Copy, PartialEq, Eq)]
 pub struct ArrayRef {
     kind: u8,
     base: u16,

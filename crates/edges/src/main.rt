@@ -4,17 +4,17 @@
 
 use network::Pool;
 use serving::serve;
-use std::io::{BufWriter, Read, Write};
+use std::io::{BufRead, BufReader, BufWriter, Read, Write};
 
 // The byte between two scripts.
 const NEXT: u8 = 30;
 
 fn run(rt: &HostRuntime) -> anyhow::Result<()> {
-    let mut input = Vec::new(rt.alloc());
-    rt.stdin().read_to_end(&mut input)?;
+    // One more separator stands at the end, so that a last script with no bytes is run too.
+    let input = BufReader::new(rt.alloc(), rt.stdin().chain(&[NEXT][..]))?;
     let mut out = BufWriter::new(rt.alloc(), rt.stdout())?;
-    for mut script in input.split(|byte| *byte == NEXT) {
-        serve(Pool::new(), &mut script, &mut out)?;
+    for script in input.split(rt.alloc(), NEXT) {
+        serve(Pool::new(), &mut script?.as_slice(), &mut out)?;
         out.write_all(b"\n")?;
     }
     out.flush()?;

@@ -45,7 +45,7 @@ impl NodeSet {
         }
     }
 
-    // The bound is said here and of the two lengths that stand on this one: a length is a plain number, no type of ours.
+    // The bound is said of three lengths: a usize has no place for one.
     pub fn len(self) -> usize
         ensures value { result ≡ count_ones self.mask }
         ensures law { result ≡ length (members self.mask) }

@@ -1,5 +1,5 @@
 // The tables of a board. What they keep together is said, and kept, by the board around them.
-// Between the steps of a call they do not keep it, so a ghost field here is no place for it: a function that needs it asks.
+// Between the steps of a call they do not keep it, so no ghost field here says it: who needs it asks for it.
 ghost use Rattle.std.specs.Prelude.{◌≡◌, map};
 ghost use Rattle.bounded.specs.Listed.{listed};
 ghost use Rattle.lines.specs.Model.{writes as write_commands};

@@ -13,10 +13,10 @@ impl fmt::Display for Place {
     fn fmt<W: fmt::Write>(&self, f: &mut fmt::Formatter<W>) -> fmt::Result {
         match self {
             Place::Free => write!(f, "free"),
-            Place::Held(read) => write!(f, "held {}", read.address.index()),
-            Place::Deferred(read) => write!(f, "deferred {}", read.address.index()),
-            Place::Ready(read, word) => write!(f, "ready {}: {word}", read.address.index()),
-            Place::Drawn(read, word) => write!(f, "drawn {}: {word}", read.address.index()),
+            Place::Held(read) => write!(f, "held {}", read.address),
+            Place::Deferred(read) => write!(f, "deferred {}", read.address),
+            Place::Ready(read, word) => write!(f, "ready {}: {word}", read.address),
+            Place::Drawn(read, word) => write!(f, "drawn {}: {word}", read.address),
         }
     }
 }
@@ -37,10 +37,10 @@ impl fmt::Display for Line {
         match self {
             Line::Empty => write!(f, "empty"),
             Line::Waiting(address, places) => {
-                write!(f, "waiting {}, places", address.index())?;
+                write!(f, "waiting {address}, places")?;
                 list(places.as_slice(), f)
             }
-            Line::Filled(address, word) => write!(f, "filled {}: {word}", address.index()),
+            Line::Filled(address, word) => write!(f, "filled {address}: {word}"),
         }
     }
 }
@@ -51,7 +51,7 @@ impl fmt::Display for Command {
     fn fmt<W: fmt::Write>(&self, f: &mut fmt::Formatter<W>) -> fmt::Result {
         match self {
             Command::Read(place) => write!(f, "read at {place}"),
-            Command::Write(address, word) => write!(f, "write {}: {word}", address.index()),
+            Command::Write(address, word) => write!(f, "write {address}: {word}"),
         }
     }
 }

@@ -37,7 +37,7 @@ pub enum Line {
 }
 
 // A read command names its place.
-// An address and its word stand as two values, as in a message: a pair would be taken apart again at each use.
+// Address and word stand as two values, as the calls, a message and the model's constructors take them.
 #[derive(Clone, Copy, PartialEq, Eq)]
 pub enum Command {
     Read(usize),
@@ -82,6 +82,14 @@ impl Traffic {
     }
 }
 
+// One act's numbers: the node, the command that it takes (the oldest is 0), and the network's traffic.
+#[derive(Clone, Copy)]
+pub(crate) struct Turn {
+    pub(crate) node: Node,
+    pub(crate) pick: usize,
+    pub(crate) traffic: Traffic,
+}
+
 // No place is free.
 #[derive(Clone, Copy, PartialEq, Eq)]
 pub struct PlacesTaken;
@@ -115,7 +123,7 @@ impl From<LineFault> for ActFault {
     }
 }
 
-// What a line says of an address: that it waits, by its number, or the word that it holds.
+// What a line of an address says: that it waits (the line's number), or the word that it holds.
 #[derive(Clone, Copy)]
 pub(crate) enum Found {
     Waits(usize),

@@ -43,7 +43,7 @@ impl<N: Network> Network for Delay<N> {
         if self.count() >= self.limit() {
             return Err(Full);
         }
-        // Not `or_else`, here and in the twin: what a closure leaves of the other network has no name in a proof.
+        // Not `or_else` (tried): what a closure leaves of the other network has no name in a proof. So in `take`.
         match self.own.push(m) {
             Ok(()) => Ok(()),
             Err(_) => self.below.send(m),

@@ -25,7 +25,7 @@ pub type Node = Number<16>;
 pub type Address = Number<1024>;
 
 // The sender of a reply is the home of its address. A read carries the word 0.
-// Kind and word stand apart: with words in its variants, a kind would need a second enum for the theorems' plain kinds.
+// Kind and word stand apart: any message is asked for both, and the theorems count by kinds alone.
 #[derive(Clone, Copy)]
 pub struct Message {
     kind: Kind,

@@ -10,7 +10,7 @@ use crate::message::Message;
 use crate::network::Network;
 use bounded::{ArrayVec, Full};
 
-// Only a take is not as in the lanes: a trait for that one method would be longer than the methods that it saves.
+// Only a take is not as in the lanes: a trait for that one method, with its rule, would be no shorter.
 #[derive(Drop)]
 pub struct Pool {
     held: ArrayVec<Message, 64>,
@@ -43,11 +43,8 @@ impl Network for Pool {
     }
 
     fn take(&mut self, pick: u64) -> Option<Message> {
-        let count = self.held.len();
-        if count == 0 {
-            return None;
-        }
-        self.held.remove((pick % count as u64) as usize)
+        let position = pick.checked_rem(self.held.len() as u64)?;
+        self.held.remove(position as usize)
     }
 
     fn count(&self) -> usize {

@@ -37,6 +37,7 @@ impl<P: Network, Q: Network> Network for Twin<P, Q> {
         if self.count() >= self.limit() {
             return Err(Full);
         }
+        // Not `or_else`, here and below, as in the delay.
         match self.first.send(m) {
             Ok(()) => Ok(()),
             Err(_) => self.second.send(m),
@@ -44,7 +45,7 @@ impl<P: Network, Q: Network> Network for Twin<P, Q> {
     }
 
     fn take(&mut self, pick: u64) -> Option<Message> {
-        // Twice, in either order: one function of both would have to tell apart which network gave.
+        // In either order: one function for both would have to say which of the two gave.
         let half = pick / 2;
         if pick % 2 == 0 {
             match self.first.take(half) {

@@ -45,10 +45,7 @@ fn run_over(rt: &HostRuntime, name: &str) -> anyhow::Result<()> {
 fn run(rt: &HostRuntime) -> anyhow::Result<()> {
     let mut args = env::args(rt)?;
     let _program = args.next();
-    match args.next() {
-        Some(name) => run_over(rt, name.as_str()),
-        None => run_over(rt, "pool"),
-    }
+    run_over(rt, args.next().as_deref().unwrap_or("pool"))
 }
 
 fn main(rt: HostRuntime) -> anyhow::Result<()> {

@@ -6,7 +6,7 @@ use std::fmt;
 
 // The number of a refusal, its layer, and the node and the address that it names.
 // The number is the rules' own, and scripts print it: the faults are the enums.
-#[derive(Clone, Copy, PartialEq, Eq)]
+#[derive(Clone, Copy, Debug, PartialEq, Eq)]
 pub struct Refusal {
     pub number: u64,
     pub layer: Layer,

@@ -4,6 +4,8 @@
 ghost use Rattle.std.specs.Prelude.{◌≡◌, ℕ, Bool};
 ghost use Rattle.rounds.specs.Rounds.{after, CountsRound, first_round, Tests};
 
+use std::iter::successors;
+
 // The number after `i` of `n` numbers; after the last comes 0.
 #[tactic(auto, using(crate::proofs::Rounds::counts_round))]
 pub fn one_past(i: usize, n: usize) -> usize
@@ -21,13 +23,7 @@ pub fn first_round<F: Fn(usize) -> bool>(start: usize, n: usize, test: F) -> Opt
     requires { F.IsAlwaysCallable test }
     ensures { (passes : ℕ → Bool) → Tests (F.post test) passes → result ≡ first_round passes n start }
 {
-    // The one loop that goes round by hand: the library has no iterator that does.
-    let mut i = start;
-    for _turn in 0..n {
-        if test(i) {
-            return Some(i);
-        }
-        i = one_past(i, n);
-    }
-    None
+    successors(Some(start), |&i| Some(one_past(i, n)))
+        .take(n)
+        .find(|&i| test(i))
 }

@@ -1,8 +1,9 @@
 // The nine calls on two boards over the pool: every call with its answer.
+use crate::walk::Walk;
 use lines::{Answer, Continuation};
 use network::Pool;
 use std::fmt::Display;
-use system::{Drawn, Refusal, Sizes, System, SystemFault};
+use system::{Drawn, Sizes, System, SystemFault};
 
 // The calls of the list; a finish and a put back are of what was drawn last.
 #[derive(Clone, Copy)]
@@ -40,112 +41,101 @@ const CALLS: [Call; 20] = [
     Call::Read(0, 4, 7, 3),
 ];
 
-pub(crate) fn refused(rt: &HostRuntime, fault: impl Into<Refusal>) -> anyhow::Result<()> {
-    let refusal: Refusal = fault.into();
-    println!(rt; "{refusal}")?;
-    Ok(())
-}
-
-fn told<T: Display + Drop>(rt: &HostRuntime, answer: Result<T, SystemFault>) -> anyhow::Result<()> {
-    match answer {
-        Ok(answer) => {
-            println!(rt; "{answer}")?;
-            Ok(())
+impl Walk<'_> {
+    fn told<T: Display + Drop>(&self, answer: Result<T, SystemFault>) -> anyhow::Result<()> {
+        match answer {
+            Ok(answer) => {
+                println!(self.rt; "{answer}")?;
+                Ok(())
+            }
+            Err(fault) => self.refused(fault),
         }
-        Err(fault) => refused(rt, fault),
     }
-}
 
-fn show_answer(rt: &HostRuntime, answer: Answer) -> anyhow::Result<()> {
-    let Answer { place, read, word } = answer;
-    let Continuation { frame, instruction } = read.continuation;
-    println!(rt;
-        "place {place}, address {}, word {word}, frame {frame}, instruction {instruction}",
-        read.address.index()
-    )?;
-    Ok(())
-}
-
-// A drawn answer is spent before anything else can fail: the compiler asks for it.
-fn draw<F: FnOnce(&mut System<Pool>, Drawn) -> Result<(), SystemFault>>(
-    rt: &HostRuntime,
-    system: &mut System<Pool>,
-    node: u64,
-    name: &str,
-    spend: F,
-) -> anyhow::Result<()>
-    requires { F.IsAlwaysCallable spend }
-{
-    print!(rt; "  draw {node}: ")?;
-    match system.draw(node) {
-        Ok((drawn, answer)) => {
-            let spent = spend(system, drawn);
-            show_answer(rt, answer)?;
-            print!(rt; "  {name}: ")?;
-            told(rt, spent.map(|()| "done"))
-        }
-        Err(fault) => refused(rt, fault),
+    fn show_answer(&self, answer: Answer) -> anyhow::Result<()> {
+        let Answer { place, read, word } = answer;
+        let Continuation { frame, instruction } = read.continuation;
+        println!(self.rt;
+            "place {place}, address {}, word {word}, frame {frame}, instruction {instruction}",
+            read.address
+        )?;
+        Ok(())
     }
-}
 
-fn make(rt: &HostRuntime, system: &mut System<Pool>, call: Call) -> anyhow::Result<()> {
-    match call {
-        Call::Start(nodes, lines, cells) => {
-            print!(rt; "  start {nodes} {lines} {cells}: ")?;
-            let sizes = Sizes {
-                nodes,
-                lines,
-                cells,
-            };
-            told(rt, system.start(sizes).map(|()| "done"))
+    // A drawn answer is spent before anything else can fail: the compiler asks for it.
+    fn draw<F: FnOnce(&mut System<Pool>, Drawn) -> Result<(), SystemFault>>(
+        &mut self,
+        node: u64,
+        name: &str,
+        spend: F,
+    ) -> anyhow::Result<()>
+        requires { F.IsAlwaysCallable spend }
+    {
+        print!(self.rt; "  draw {node}: ")?;
+        match self.system.draw(node) {
+            Ok((drawn, answer)) => {
+                let spent = spend(&mut self.system, drawn);
+                self.show_answer(answer)?;
+                print!(self.rt; "  {name}: ")?;
+                self.told(spent.map(|()| "done"))
+            }
+            Err(fault) => self.refused(fault),
         }
-        Call::Read(node, address, frame, instruction) => {
-            print!(rt; "  read {node} {address} {frame} {instruction}: ")?;
-            let continuation = Continuation { frame, instruction };
-            told(rt, system.read(node, address, continuation))
-        }
-        Call::Write(node, address, word) => {
-            print!(rt; "  write {node} {address} {word}: ")?;
-            told(rt, system.write(node, address, word).map(|()| "done"))
-        }
-        Call::Act(node, pick) => {
-            print!(rt; "  act {node} {pick}: ")?;
-            told(rt, system.act(node, pick))
-        }
-        Call::Deliver(pick) => {
-            print!(rt; "  deliver {pick}: ")?;
-            told(rt, system.deliver(pick))
-        }
-        Call::DrawAndFinish(node) => {
-            draw(
-                rt,
-                system,
-                node,
-                "finish",
-                |system, drawn| system.finish(drawn),
-            )
-        }
-        Call::DrawAndPutBack(node) => {
-            draw(
-                rt,
-                system,
-                node,
-                "put back",
-                |system, drawn| system.put_back(drawn),
-            )
-        }
-        Call::Create(kind, length) => {
-            print!(rt; "  create {kind} {length}: ")?;
-            told(rt, system.create(kind, length))
+    }
+
+    fn make(&mut self, call: Call) -> anyhow::Result<()> {
+        match call {
+            Call::Start(nodes, lines, cells) => {
+                print!(self.rt; "  start {nodes} {lines} {cells}: ")?;
+                let sizes = Sizes {
+                    nodes,
+                    lines,
+                    cells,
+                };
+                let started = self.system.start(sizes);
+                self.told(started.map(|()| "done"))
+            }
+            Call::Read(node, address, frame, instruction) => {
+                print!(self.rt; "  read {node} {address} {frame} {instruction}: ")?;
+                let continuation = Continuation { frame, instruction };
+                let read = self.system.read(node, address, continuation);
+                self.told(read)
+            }
+            Call::Write(node, address, word) => {
+                print!(self.rt; "  write {node} {address} {word}: ")?;
+                let written = self.system.write(node, address, word);
+                self.told(written.map(|()| "done"))
+            }
+            Call::Act(node, pick) => {
+                print!(self.rt; "  act {node} {pick}: ")?;
+                let acted = self.system.act(node, pick);
+                self.told(acted)
+            }
+            Call::Deliver(pick) => {
+                print!(self.rt; "  deliver {pick}: ")?;
+                let delivered = self.system.deliver(pick);
+                self.told(delivered)
+            }
+            Call::DrawAndFinish(node) => {
+                self.draw(node, "finish", |system, drawn| system.finish(drawn))
+            }
+            Call::DrawAndPutBack(node) => {
+                self.draw(node, "put back", |system, drawn| system.put_back(drawn))
+            }
+            Call::Create(kind, length) => {
+                print!(self.rt; "  create {kind} {length}: ")?;
+                let created = self.system.create(kind, length);
+                self.told(created)
+            }
         }
     }
 }
 
 pub(crate) fn walk(rt: &HostRuntime) -> anyhow::Result<()> {
     println!(rt; "The nine calls on two boards over the pool:")?;
-    let mut system = System::new(Pool::new());
+    let mut walk = Walk::new(rt);
     for call in CALLS {
-        make(rt, &mut system, call)?;
+        walk.make(call)?;
     }
     Ok(())
 }

@@ -3,6 +3,7 @@
 
 mod array_walk;
 mod calls;
+mod walk;
 
 fn run(rt: &HostRuntime) -> anyhow::Result<()> {
     calls::walk(rt)?;

@@ -1,11 +1,11 @@
 -- From letters and fields to calls.
 use Rattle.std.proofs.Common.{◌≡◌, ℕ, zero, suc, ◌+◌, ◌^◌, ◌<◌, ◌≤◌, true, cond, eqb, ◌⊎◌, List, [], ◌∷◌, length, get_or, drop, is_err, Ok, Err, Result, sym, refl, ap, ◌∙◌, subst, ⊎_elim, arith, MatchResult}
-use Rattle.std.proofs.lemmas.List.{drop_more, drop_all, take_rest}
+use Rattle.std.proofs.lemmas.List.{drop_more, drop_all}
 use Rattle.script.specs.declared.fault.NotALine.{NotALine}
 use Rattle.script.specs.declared.call.Call.{Call}
 use Rattle.script.specs.declared.call.Call.TheVariants.{Start, Read, Write, Act, Deliver, Draw, Finish, PutBack, Create}
 use Rattle.script.specs.Texts.{fields_text, Small, Fielded}
-use Rattle.script.specs.Calls.{letter_of, fields_of, Narrow, Fits, call_text, Writes, NoCall, ReadsBack, Opens, Parts, NoParts}
+use Rattle.script.specs.Calls.{letter_of, fields_of, Narrow, Fits, call_text, Writes, NoCall, ReadsBack, Parts, NoParts}
 use Rattle.script.proofs.Commas.{same_whole, length_fields}
 
 -- a call from its letter and its fields
@@ -72,23 +72,6 @@ read_narrow text xs f wide c p =
 
 pub read_fields : (xs : List ℕ) (f i : ℕ) → length xs ≡ 4 → f ≡ get_or xs 2 0 → i ≡ get_or xs 3 0 → xs ≡ get_or xs 0 0 ∷ get_or xs 1 0 ∷ f ∷ i ∷ []
 read_fields xs f i l ef ei = rw (ef, ei) (places_all 4 xs l)
-
--- a line of a letter, a comma and a text
-pub writes : (line text : List ℕ) (l : ℕ) (c : Call) → line ≡ l ∷ (44 ∷ text) → Parts l text c → Writes c line
-writes line text l c e p = let k = p.kind in let i = p.is in record { is = cc; fits = p.fits }
-
-pub no_call : (line text : List ℕ) (l : ℕ) → line ≡ l ∷ (44 ∷ text) → NoParts l text → NoCall line
-no_call line text l e none c w = let i = w.is in none c (record { kind = cc; is = cc; fits = w.fits })
-
--- what a line begins with
-pub opens : (line text : List ℕ) (l : ℕ) → Opens line l text → line ≡ l ∷ (44 ∷ text)
-opens line text l o =
-    let e = o.first in
-    let k = o.comma in
-    let r = o.rest ∙ take_rest line 2 in
-    let first = drop_more line 0 0 (omega (arith, o.long)) in
-    let second = drop_more line 1 0 o.long in
-    cc
 
 -- a call's line is of at most 85 bytes
 few_fields : (c : Call) → length (fields_of c) ≤ 4

@@ -1,20 +1,9 @@
 -- Fields with commas between them, and those that are read so far.
-use Rattle.std.proofs.Common.{◌≡◌, ℕ, ◌+◌, ◌*◌, ◌^◌, ◌<◌, ◌≤◌, cond, eqb, List, [], ◌∷◌, ◌++◌, length, get_or, take, drop, set, decimal, sym, refl, ap, ◌∙◌, subst, inl, append_assoc, arith, length-append, length-set}
-use Rattle.std.proofs.lemmas.Bool.Decides.{nat_tests}
+use Rattle.std.proofs.Common.{◌≡◌, ℕ, ◌+◌, ◌*◌, ◌^◌, ◌<◌, ◌≤◌, List, [], ◌∷◌, ◌++◌, length, get_or, take, drop, set, decimal, sym, refl, ap, ◌∙◌, subst, inl, append_assoc, arith, length-append, length-set}
 use Rattle.std.proofs.lemmas.Fmt.{digits_decimal, decimal_injective, length-decimal-le}
 use Rattle.std.proofs.lemmas.List.{take-append-drop, take_more_set, drop_more, length-take-le, drop_all, append-nil}
 use Rattle.script.specs.Texts.{fields_text, Small, NoDigit, Front, NoFront, Fielded}
 use Rattle.script.proofs.Numbers.{own, cut}
-
--- what is still to be read, with the comma in front that the first field has had
-abbrev pub pending : ℕ → List ℕ → List ℕ
-pending i rest = cond (eqb i 0) (44 ∷ rest) rest
-
-pub pending_later : (i : ℕ) (rest : List ℕ) → 0 < i → pending i rest ≡ rest
-pending_later i rest l = grind (arith, nat_tests)
-
-pub pending_first : (i : ℕ) (rest : List ℕ) → i ≤ 0 → pending i rest ≡ 44 ∷ rest
-pending_first i rest l = grind (arith, nat_tests)
 
 pub fields_split : (xs ys : List ℕ) → fields_text (xs ++ ys) ≡ fields_text xs ++ fields_text ys
 fields_split [] ys = refl
@@ -50,14 +39,14 @@ same_first x y p q hx hy hp hq e =
     (decimal_injective x y hx hy c.0, c.1)
 
 -- as many fields that write the same text are the same, and so is what follows
-same_fields : (xs ys p q : List ℕ) → length xs ≡ length ys → Small xs → Small ys → NoDigit p → NoDigit q → fields_text xs ++ p ≡ fields_text ys ++ q → (xs ≡ ys) × (p ≡ q)
+same_fields : (xs ys p q : List ℕ) → length xs ≡ length ys → Small xs → Small ys → (0 < length xs → NoDigit p) → NoDigit q → fields_text xs ++ p ≡ fields_text ys ++ q → (xs ≡ ys) × (p ≡ q)
 same_fields [] [] p q l hx hy hp hq e = (refl, e)
 same_fields [] (y ∷ ys) p q l hx hy hp hq e = absurd (omega (arith, l))
 same_fields (x ∷ xs) [] p q l hx hy hp hq e = absurd (omega (arith, l))
 same_fields (x ∷ xs) (y ∷ ys) p q l hx hy hp hq e =
     let tails : (decimal x ++ fields_text xs) ++ p ≡ (decimal y ++ fields_text ys) ++ q = cc in
-    let first = same_first x y (fields_text xs ++ p) (fields_text ys ++ q) hx.0 hy.0 (no_digit xs p hp) (no_digit ys q hq) (sym (append_assoc (decimal x) (fields_text xs) p) ∙ (tails ∙ append_assoc (decimal y) (fields_text ys) q)) in
-    let more = same_fields xs ys p q (omega (arith, l)) hx.1 hy.1 hp hq first.1 in
+    let first = same_first x y (fields_text xs ++ p) (fields_text ys ++ q) hx.0 hy.0 (no_digit xs p (hp (omega arith))) (no_digit ys q hq) (sym (append_assoc (decimal x) (fields_text xs) p) ∙ (tails ∙ append_assoc (decimal y) (fields_text ys) q)) in
+    let more = same_fields xs ys p q (omega (arith, l)) hx.1 hy.1 (λ _. hp (omega arith)) hq first.1 in
     let head = first.0 in
     let tail = more.0 in
     (cc, more.1)
@@ -76,8 +65,8 @@ same_whole (x ∷ xs) (y ∷ ys) hx hy e =
 
 -- of n values the first i are read, and p is what is left of the text
 pub record Sofar (n : ℕ) (text vs : List ℕ) (i : ℕ) (p : List ℕ) : Type 0 where
-  pub is : 44 ∷ text ≡ fields_text (take i vs) ++ p
-  pub ends : NoDigit p
+  pub is : text ≡ fields_text (take i vs) ++ p
+  pub ends : 0 < i → NoDigit p
   pub small : Small (take i vs)
   pub count : length vs ≡ n
 
@@ -87,7 +76,7 @@ read n text vs i p s r x l h e f =
     let t = take_more_set vs i x (omega (arith, l, h.count)) in
     record {
       is = rw (t, fields_push (take i vs) x r) (h.is ∙ ap (λ (z : List ℕ). fields_text (take i vs) ++ z) (e ∙ ap (λ (z : List ℕ). 44 ∷ z) f.is));
-      ends = f.ends;
+      ends = λ _. f.ends;
       small = rw t (small_push (take i vs) x h.small f.fits);
       count = length-set vs i x ∙ h.count;
     }
@@ -98,7 +87,7 @@ module _ (n : ℕ) (text vs : List ℕ) (i : ℕ) (p ys : List ℕ) (h : Sofar n
   left l =
       let split : fields_text ys ≡ fields_text (take i ys) ++ fields_text (drop i ys) = ap fields_text (sym (take-append-drop i ys)) ∙ fields_split (take i ys) (drop i ys) in
       let s = small_parts (take i ys) (drop i ys) (rw (take-append-drop i ys) f.small) in
-      (same_fields (take i vs) (take i ys) p (fields_text (drop i ys)) (length-take-le i vs (omega (arith, l, h.count)) ∙ sym (length-take-le i ys (omega (arith, l, f.count)))) h.small s.0 h.ends (no_digit_alone (drop i ys)) (sym h.is ∙ (f.is ∙ split))).1
+      (same_fields (take i vs) (take i ys) p (fields_text (drop i ys)) (length-take-le i vs (omega (arith, l, h.count)) ∙ sym (length-take-le i ys (omega (arith, l, f.count)))) h.small s.0 (λ some. h.ends (omega (arith, some, length-take-le i vs (omega (arith, l, h.count))))) (no_digit_alone (drop i ys)) (sym h.is ∙ (f.is ∙ split))).1
 
   -- a comma and a number, where there is more to come
   goes_on : i < n → (x : ℕ) × (r : List ℕ) × (x < 2 ^ 64) × NoDigit r × (p ≡ 44 ∷ (decimal x ++ r))

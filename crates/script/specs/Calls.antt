@@ -1,6 +1,5 @@
 -- The calls of a script, as the lines that write them.
-use Rattle.std.specs.Prelude.{◌≡◌, ℕ, ◌^◌, ◌<◌, List, [], ◌∷◌, length, Ok, Result, slice_index_or}
-use Rattle.std.specs.List.{between}
+use Rattle.std.specs.Prelude.{◌≡◌, ℕ, ◌^◌, ◌<◌, List, [], ◌∷◌, Ok, Result}
 use Rattle.script.specs.declared.call.Call.{Call}
 use Rattle.script.specs.declared.call.Call.TheVariants.{Start, Read, Write, Act, Deliver, Draw, Finish, PutBack, Create}
 use Rattle.script.specs.declared.fault.NotALine.{NotALine}
@@ -67,17 +66,10 @@ ReadsBack line r = (c : Call) → Writes c line → r ≡ Ok c
 abbrev pub Alone : Call → Type 0
 Alone c = (d : Call) → Writes d (call_text c) → d ≡ c
 
--- the line begins with the letter and a comma, and then comes the text
-pub record Opens (line : List ℕ) (letter : ℕ) (text : List ℕ) : Type 0 where
-  pub long : 1 < length line
-  pub first : slice_index_or line 0 0 ≡ letter
-  pub comma : slice_index_or line 1 0 ≡ 44
-  pub rest : text ≡ between 2 (length line) line
-
--- a line's letter and the text behind its first comma are the call's
+-- a line's letter and the text behind it are the call's
 pub record Parts (letter : ℕ) (text : List ℕ) (c : Call) : Type 0 where
   pub kind : letter ≡ letter_of c
-  pub is : 44 ∷ text ≡ fields_text (fields_of c)
+  pub is : text ≡ fields_text (fields_of c)
   pub fits : Fits c
 
 abbrev pub NoParts : ℕ → List ℕ → Type 0

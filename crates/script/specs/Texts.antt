@@ -51,9 +51,9 @@ pub record Front (text : List ℕ) (n : ℕ) (rest : List ℕ) : Type 0 where
 abbrev pub NoFront : List ℕ → Type 0
 NoFront text = (n : ℕ) (rest : List ℕ) → Front text n rest → ⊥
 
--- the text has just n fields, and these are their numbers; the comma is the one after the line's letter
+-- the text has just n fields, each with a comma before it, and these are their numbers
 pub record Fielded (n : ℕ) (text xs : List ℕ) : Type 0 where
-  pub is : 44 ∷ text ≡ fields_text xs
+  pub is : text ≡ fields_text xs
   pub small : Small xs
   pub count : length xs ≡ n
 

@@ -6,7 +6,7 @@ use crate::fault::{BufferShort, NotALine};
 use refusals::{Layer, Refusal};
 
 // The first five are accepted calls, with the numbers that they answer.
-#[derive(Clone, Copy, PartialEq, Eq)]
+#[derive(Clone, Copy, Debug, PartialEq, Eq)]
 pub enum Answer {
     Done,
     Place(u64),

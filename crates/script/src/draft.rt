@@ -96,6 +96,7 @@ impl Draft {
     {
         let line = self.text.as_slice();
         let n = line.len();
+        // `get_mut` would be shorter, and nothing is said of what the slice ends as after it.
         if buffer.len() < n {
             return Err(BufferShort);
         }

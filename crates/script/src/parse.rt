@@ -1,20 +1,10 @@
 // A line of a script as a call.
-ghost use Rattle.std.specs.Prelude.{◌≡◌, ◌<◌, true, length, is_err, MatchResult, ◌≢◌, slice_index};
-ghost use Rattle.script.specs.Calls.{Writes, NoCall, ReadsBack, Opens, Parts, NoParts};
+ghost use Rattle.std.specs.Prelude.{◌≡◌, ◌<◌, true, length, is_err, MatchResult};
+ghost use Rattle.script.specs.Calls.{Writes, NoCall, ReadsBack, Parts, NoParts};
 
 use crate::call::Call;
 use crate::fault::NotALine;
 use crate::fields::fields;
-
-// The letter of a line, and what follows its comma.
-fn opening(line: &[u8]) -> Result<(char, &[u8]), NotALine>
-    ensures { MatchResult result (λ p. Opens line.now p.0 p.1.now) (λ _. (1 < length line.now → slice_index line.now 1 ≢ 44)) }
-{
-    match line {
-        [letter, b',', rest @ ..] => Ok((char::from(*letter), rest)),
-        _ => Err(NotALine),
-    }
-}
 
 // S with its fields.
 fn start(text: &[u8]) -> Result<Call, NotALine>
@@ -96,7 +86,7 @@ impl Call {
         ensures back { ReadsBack line.now result }
         ensures short { 96 < length line.now → is_err result ≡ true }
     {
-        let (letter, text) = opening(line)?;
-        call_of(letter, text)
+        let (letter, text) = line.split_first().ok_or(NotALine)?;
+        call_of(char::from(*letter), text)
     }
 }

@@ -1,12 +1,17 @@
 -- Messages offered one after another, by the network's rule and by its bag.
-use Rattle.std.proofs.Common.{◌≡◌, ℕ, Bool, true, false, ltb, List, ◌∷◌, map, length, Some, None, MatchBool, Option, sym, refl, ap, ◌∙◌, subst}
-use Rattle.std.proofs.lemmas.List.{length-map, map-append}
-use Rattle.std.specs.Option.{option_map}
+use Rattle.std.proofs.Common.{◌≡◌, ℕ, Bool, true, false, ltb, List, [], ◌∷◌, ◌++◌, map, length, Some, None, MatchBool, Option, MatchOption, sym, refl, ap, ◌∙◌, subst}
+use Rattle.std.proofs.lemmas.List.{length-map, map-append, map-id}
+use Rattle.std.proofs.lemmas.Iterator.{items_from_drains}
+use Rattle.std.proofs.lemmas.Iterator.Adapters.{YieldsList-from_once}
+use Rattle.std.specs.Iterator.{Drains}
+use Rattle.std.specs.declared.iter.Once.{Once}
+use Rattle.std.specs.Iterator.Adapters.{once_item, once_steps}
+use Rattle.std.specs.Option.{option_map, option_to_list}
+use Rattle.home.specs.declared.replies.Replies.{Replies}
+use Rattle.home.specs.Pending.{pending}
 use Rattle.network.specs.declared.message.Message.{Message}
-use Rattle.network.specs.declared.network.Network.{Ghosts}
-use Rattle.network.specs.Bags.{OneMore, Gives, Joins, Offered}
-use Rattle.network.specs.Messages.{Plain, plain}
-use Rattle.system.specs.Through.{Offer, Offers}
+use Rattle.network.specs.Bags.{OneMore, Gives, Joins}
+use Rattle.network.specs.Messages.{plain}
 
 -- a bag of messages is a bag of what each of them says
 module _ {X Y : Type 0} (f : X → Y) where
@@ -29,10 +34,21 @@ module _ {X Y : Type 0} (f : X → Y) where
   pub joins : (limit : ℕ) (bag : List X) (x : X) (next : List X) → Joins limit bag x next → Joins limit (map f bag) (f x) (map f next)
   joins limit bag x next h = subst (λ k. MatchBool (ltb k limit) (OneMore (f x) (map f bag) (map f next)) (map f next ≡ map f bag)) (sym (length-map bag f)) (joins_by bag x next (ltb (length bag) limit) h)
 
--- one more is offered before the others
-module _ {N : Type 0} (net : Ghosts N) (n next : N) (x : Message) (ps all : List Plain) (is : all ≡ plain x ∷ ps) where
-  pub first_offered : Offer net n x next → (last : N) → Offers net next ps last → Offers net n all last
-  first_offered o last h = subst (λ ms. Offers net n ms last) (sym is) (x, next, refl, o, h)
+-- what was offered, one more, and the others
+pub one_more_offered : {X Y : Type 0} (f : X → Y) (xs : List X) (x : X) (ys : List Y) → map f (xs ++ x ∷ []) ++ ys ≡ map f xs ++ f x ∷ ys
+one_more_offered f [] x ys = refl
+one_more_offered f (z ∷ zs) x ys = ap (λ l. f z ∷ l) (one_more_offered f zs x ys)
 
-  pub first_joins : (limit : ℕ) → Joins limit (net.bag n) x (net.bag next) → (last : List Plain) → Offered limit (map plain (net.bag next)) ps last → Offered limit (map plain (net.bag n)) all last
-  first_joins limit j last h = subst (λ ms. Offered limit (map plain (net.bag n)) ms last) (sym is) (map plain (net.bag next), joins plain limit (net.bag n) x (net.bag next) j, h)
+-- all that replies give is what is pending
+pub replies_given : (s : Replies) (xs : List Message) → Drains (λ s r t. MatchOption r (pending s ≡ []) (λ reply. pending s ≡ plain reply ∷ pending t)) s xs → map plain xs ≡ pending s
+replies_given s [] (u, (t, is, none)) = sym (ap pending is ∙ none)
+replies_given s (x ∷ xs) (u, (t, (next, step, steps), none)) = ap (λ l. plain x ∷ l) (replies_given next xs (u, (t, steps, none))) ∙ sym step
+
+listed_plain : (o : Option Message) → map plain (option_to_list o) ≡ option_to_list (option_map plain o)
+listed_plain None = refl
+listed_plain (Some x) = refl
+
+-- and all that one message or none gives
+pub message_given : (s : Once Message) (o : Option Message) (xs : List Message) → once_item s ≡ o → Drains once_steps s xs → map plain xs ≡ option_to_list (option_map plain o)
+message_given s o xs is (u, (t, steps, none)) =
+    ap (map plain) (sym (map-id xs) ∙ items_from_drains xs (t, steps, λ _. (u, none)) (YieldsList-from_once o is)) ∙ listed_plain o

@@ -5,7 +5,7 @@ use crate::memory::Memory;
 use lines::Board;
 
 // The nodes at work and the cells of each; the end of the arrays created so far.
-// Both are 0 before the start, and no Option: the rules say so, and a moment before it has boards and cells too.
+// Both are 0 before the start, and no Option: the memory's model says "not started" by 0 nodes, and its cells are 0 then.
 // A call borrows the boards before it takes one of them: the check has no plan for `self.boards[i].draw()`.
 #[derive(Drop)]
 pub struct System<N> {

@@ -38,7 +38,7 @@ impl<N: Network> Life<'_, N> {
 
     fn arrive(&mut self, message: Message) -> anyhow::Result<()> {
         if message.kind() == Kind::Reply {
-            println!(self.rt; "  {message}: board {} has its word", message.to().index())?;
+            println!(self.rt; "  {message}: board {} has its word", message.to())?;
             return Ok(());
         }
         match self.cell.receive(message) {

@@ -1,4 +1,4 @@
-// A network as a stranger might write it: it hands out its newest message, and shows the rules of the bag alone.
+// A network as a stranger might write it, each method by itself: it hands out its newest message, and shows the rules of the bag alone.
 ghost use Rattle.std.specs.Prelude.{◌≡◌, []};
 ghost use Rattle.bounded.specs.Listed.{listed};
 ghost use Rattle.std.proofs.Common.{rules};

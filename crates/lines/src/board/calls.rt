@@ -1,4 +1,5 @@
-// The calls on a board.
+// The calls on a board. A raw call says what becomes of the tables; that the facts stay is shown here, once
+// for each call, of the model: inside the raw one each return would owe it.
 ghost use Rattle.std.specs.Prelude.{◌≡◌, is_ok, if◌then◌else◌, Some, None, nat_le};
 ghost use Rattle.std.specs.Option.{option_map};
 ghost use Rattle.std.specs.Result.{result_ok, result_map_both as both};
@@ -8,7 +9,9 @@ ghost use Rattle.lines.specs.Plain.{plain_read, plain_answer, plain_acted, plain
 
 use super::Board;
 use crate::raw::RawBoard;
-use crate::types::{ActFault, Acted, Answer, NotDrawn, PlacesTaken, Read, Traffic, WritesHeld};
+use crate::types::{
+    ActFault, Acted, Answer, NotDrawn, PlacesTaken, Read, Traffic, Turn, WritesHeld,
+};
 use network::{Address, Node};
 
 impl Board {
@@ -45,7 +48,11 @@ impl Board {
         ensures answer { both plain_acted plain_refusal result ≡ (acted node.index (tables self.old) pick traffic.load traffic.limit).answer }
         ensures after { tables self.new ≡ (acted node.index (tables self.old) pick traffic.load traffic.limit).after }
     {
-        self.raw.act(node, pick, traffic)
+        self.raw.act(Turn {
+            node,
+            pick,
+            traffic,
+        })
     }
 
     // The word of an address comes in. Answers how many places it made ready.

@@ -16,7 +16,7 @@ pub(super) fn at<T: Copy>(items: &[T], i: usize, other: T) -> T
     items.get(i).copied().unwrap_or(other)
 }
 
-// The place at a number becomes another. (By a test: of `get_mut` the library does not say what the slice ends as.)
+// The place at a number becomes another. (By a test: `get_mut` does not say what the slice ends as.)
 #[tactic(auto, using(crate::proofs::Mapped::mapped))]
 pub(super) fn put(places: &mut [Place], p: usize, x: Place)
     ensures { map plain_place places.new ≡ slice_set (map plain_place places.old) p (plain_place x) }

@@ -4,17 +4,15 @@ ghost use Rattle.bounded.specs.Listed.{listed};
 ghost use Rattle.std.specs.List.{slice_get};
 ghost use Rattle.std.specs.Result.{result_map_both};
 ghost use Rattle.lines.specs.Facts.{Facts};
-ghost use Rattle.lines.specs.Model.{reading, writing, writes as write_commands, claimed, used, deferring, readying, read_claims, act_on, acted};
+ghost use Rattle.lines.specs.Model.{reading, writing, writes as write_commands, claimed, used, readying, read_claims, act_on, acted};
 ghost use Rattle.lines.specs.Plain.{plain_command, plain_read, plain_acted, plain_refusal};
 ghost use Rattle.lines.specs.Raws.{raw_tables};
 
 use super::RawBoard;
 use super::access::{append, put};
 use super::lines::find;
-use crate::types::{
-    ActFault, Acted, Command, Found, Line, LineFault, Outgoing, Place, Read, Traffic,
-};
-use network::{Address, Node};
+use crate::types::{ActFault, Acted, Command, Found, Line, LineFault, Outgoing, Place, Read, Turn};
+use network::Address;
 
 impl Command {
     // How many writes it is, 1 or 0.
@@ -39,14 +37,7 @@ impl RawBoard {
         }
     }
 
-    // The place waits with its read.
-    fn defer(&mut self, place: usize, read: Read)
-        ensures { raw_tables self.new ≡ deferring (raw_tables self.old) place (plain_read read) }
-    {
-        put(&mut self.places, place, Place::Deferred(read));
-    }
-
-    // The place becomes ready, behind the others.
+    // The place becomes ready, behind the others. (With its read, that the caller has from a match already.)
     pub(super) fn make_ready(&mut self, place: usize, read: Read, word: u64)
         requires { length (listed self.old.order) < 32 }
         ensures { raw_tables self.new ≡ readying (raw_tables self.old) place (plain_read read) word }
@@ -56,45 +47,32 @@ impl RawBoard {
     }
 
     // A read with no line claims one, and asks the home of its address.
-    fn ask(
-        &mut self,
-        node: Node,
-        pick: usize,
-        place: usize,
-        read: Read,
-        traffic: Traffic,
-    ) -> Result<Acted, ActFault>
-        ensures answer { result_map_both plain_acted plain_refusal result ≡ (read_claims node.index (raw_tables self.old) pick place (plain_read read) traffic.load traffic.limit (claimed (raw_tables self.old))).answer }
-        ensures after { raw_tables self.new ≡ (read_claims node.index (raw_tables self.old) pick place (plain_read read) traffic.load traffic.limit (claimed (raw_tables self.old))).after }
+    fn ask(&mut self, turn: Turn, place: usize, read: Read) -> Result<Acted, ActFault>
+        ensures answer { result_map_both plain_acted plain_refusal result ≡ (read_claims turn.node.index (raw_tables self.old) turn.pick place (plain_read read) turn.traffic.load turn.traffic.limit (claimed (raw_tables self.old))).answer }
+        ensures after { raw_tables self.new ≡ (read_claims turn.node.index (raw_tables self.old) turn.pick place (plain_read read) turn.traffic.load turn.traffic.limit (claimed (raw_tables self.old))).after }
     {
         let i = self
             .claim()
-            .ok_or(LineFault::EveryLineWaits(node, read.address))?;
+            .ok_or(LineFault::EveryLineWaits(turn.node, read.address))?;
         // There is to be room for the reply too.
-        if traffic.room() < 2 {
+        if turn.traffic.room() < 2 {
             return Err(ActFault::NetworkFull(read.address));
         }
         self.take_line(i, Line::waiting(read.address, place));
-        self.defer(place, read);
-        self.use_up(pick);
+        put(&mut self.places, place, Place::Deferred(read));
+        self.use_up(turn.pick);
         Ok(Acted {
             readied: 0,
             sends: Some(Outgoing::Read(read.address)),
         })
     }
 
-    // Command `pick` is the read at `place`.
-    fn act_read(
-        &mut self,
-        node: Node,
-        pick: usize,
-        place: usize,
-        traffic: Traffic,
-    ) -> Result<Acted, ActFault>
+    // The command is the read at `place`.
+    fn act_read(&mut self, turn: Turn, place: usize) -> Result<Acted, ActFault>
         requires facts { Facts (raw_tables self.old) }
-        requires named { slice_get (raw_tables self.old).commands pick ≡ Some (reading place) }
-        ensures answer { result_map_both plain_acted plain_refusal result ≡ (act_on node.index (raw_tables self.old) pick traffic.load traffic.limit (Some (reading place))).answer }
-        ensures after { raw_tables self.new ≡ (act_on node.index (raw_tables self.old) pick traffic.load traffic.limit (Some (reading place))).after }
+        requires named { slice_get (raw_tables self.old).commands turn.pick ≡ Some (reading place) }
+        ensures answer { result_map_both plain_acted plain_refusal result ≡ (act_on turn.node.index (raw_tables self.old) turn.pick turn.traffic.load turn.traffic.limit (Some (reading place))).answer }
+        ensures after { raw_tables self.new ≡ (act_on turn.node.index (raw_tables self.old) turn.pick turn.traffic.load turn.traffic.limit (Some (reading place))).after }
     {
         // A read command names a held place.
         let Place::Held(read) = self.place(place) else {
@@ -103,7 +81,7 @@ impl RawBoard {
         match find(self.lines.as_slice(), read.address) {
             Some(Found::Holds(word)) => {
                 self.make_ready(place, read, word);
-                self.use_up(pick);
+                self.use_up(turn.pick);
                 Ok(Acted {
                     readied: 1,
                     sends: None,
@@ -111,65 +89,53 @@ impl RawBoard {
             }
             Some(Found::Waits(i)) => {
                 self.join(i, place);
-                self.defer(place, read);
-                self.use_up(pick);
+                put(&mut self.places, place, Place::Deferred(read));
+                self.use_up(turn.pick);
                 Ok(Acted {
                     readied: 0,
                     sends: None,
                 })
             }
-            None => self.ask(node, pick, place, read, traffic),
+            None => self.ask(turn, place, read),
         }
     }
 
-    // Command `pick` is a write.
-    fn act_write(
-        &mut self,
-        node: Node,
-        pick: usize,
-        address: Address,
-        word: u64,
-        traffic: Traffic,
-    ) -> Result<Acted, ActFault>
+    // The command is a write.
+    fn act_write(&mut self, turn: Turn, address: Address, word: u64) -> Result<Acted, ActFault>
         requires { Facts (raw_tables self.old) }
-        ensures answer { result_map_both plain_acted plain_refusal result ≡ (act_on node.index (raw_tables self.old) pick traffic.load traffic.limit (Some (writing address.index word))).answer }
-        ensures after { raw_tables self.new ≡ (act_on node.index (raw_tables self.old) pick traffic.load traffic.limit (Some (writing address.index word))).after }
+        ensures answer { result_map_both plain_acted plain_refusal result ≡ (act_on turn.node.index (raw_tables self.old) turn.pick turn.traffic.load turn.traffic.limit (Some (writing address.index word))).answer }
+        ensures after { raw_tables self.new ≡ (act_on turn.node.index (raw_tables self.old) turn.pick turn.traffic.load turn.traffic.limit (Some (writing address.index word))).after }
     {
         let readied = match find(self.lines.as_slice(), address) {
             Some(Found::Holds(_)) => {
-                self.use_up(pick);
-                return Err(ActFault::from(LineFault::WrittenTwice(node, address)));
+                self.use_up(turn.pick);
+                return Err(ActFault::from(LineFault::WrittenTwice(turn.node, address)));
             }
-            _ if traffic.room() == 0 => return Err(ActFault::NetworkFull(address)),
+            _ if turn.traffic.room() == 0 => return Err(ActFault::NetworkFull(address)),
             Some(Found::Waits(i)) => self.fill(i, address, word),
             None => {
                 self.fill_new(address, word);
                 0
             }
         };
-        self.use_up(pick);
+        self.use_up(turn.pick);
         Ok(Acted {
             readied,
             sends: Some(Outgoing::Write(address, word)),
         })
     }
 
-    // Acts on command `pick`, the oldest being 0, while the network has such traffic.
+    // Acts on the turn's command.
     #[tactic(auto, using(crate::proofs::Mapped::mapped))]
-    pub(crate) fn act(
-        &mut self,
-        node: Node,
-        pick: usize,
-        traffic: Traffic,
-    ) -> Result<Acted, ActFault>
+    pub(crate) fn act(&mut self, turn: Turn) -> Result<Acted, ActFault>
         requires { Facts (raw_tables self.old) }
-        ensures answer { result_map_both plain_acted plain_refusal result ≡ (acted node.index (raw_tables self.old) pick traffic.load traffic.limit).answer }
-        ensures after { raw_tables self.new ≡ (acted node.index (raw_tables self.old) pick traffic.load traffic.limit).after }
+        ensures answer { result_map_both plain_acted plain_refusal result ≡ (acted turn.node.index (raw_tables self.old) turn.pick turn.traffic.load turn.traffic.limit).answer }
+        ensures after { raw_tables self.new ≡ (acted turn.node.index (raw_tables self.old) turn.pick turn.traffic.load turn.traffic.limit).after }
     {
-        let command = self.commands.get(pick).ok_or(ActFault::NoSuchCommand)?;
+        let command = self.commands.get(turn.pick).ok_or(ActFault::NoSuchCommand)?;
         match command {
-            Command::Read(place) => self.act_read(node, pick, place, traffic),
-            Command::Write(address, word) => self.act_write(node, pick, address, word, traffic),
+            Command::Read(place) => self.act_read(turn, place),
+            Command::Write(address, word) => self.act_write(turn, address, word),
         }
     }
 }

@@ -87,9 +87,9 @@ impl RawBoard {
         ensures answer { is_ok result ≡ is_drawn (place_at (raw_tables self.old) place) }
         ensures after { raw_tables self.new ≡ finished (raw_tables self.old) place }
     {
-        let Place::Drawn(_, _) = self.place(place) else {
+        if !matches!(self.place(place), Place::Drawn(_, _)) {
             return Err(NotDrawn);
-        };
+        }
         put(&mut self.places, place, Place::Free);
         Ok(())
     }

@@ -11,12 +11,9 @@ impl<const LIMIT: u16> Number<LIMIT> {
     pub fn new(number: u64) -> Option<Number<LIMIT>>
         ensures { option_map (λ n. n.index) result ≡ below LIMIT number }
     {
-        if number < u64::from(LIMIT) {
-            Some(Number {
-                index: number as u16,
-            })
-        } else {
-            None
+        match u16::try_from(number) {
+            Ok(index) if index < LIMIT => Some(Number { index }),
+            _ => None,
         }
     }
 
@@ -59,6 +56,7 @@ impl Message {
     }
 
     // The node `from` gives the home of the address its word.
+    // (A reply has a function of its own: one with a kind to choose could be asked for a read with a word.)
     pub fn write(to: Node, address: Address, from: Node, word: u64) -> Message
         ensures { plain result ≡ writing to.index address.index from.index word }
     {

@@ -1,11 +1,12 @@
 ghost use Rattle.std.specs.Prelude.{◌≡◌, ◌<◌};
 
 use super::Drawn;
+use network::Node;
 
 impl Drawn {
     // Only this crate makes a token.
-    pub(crate) fn new(node: usize, place: usize) -> Drawn
-        requires { (node < 16) × (place < 32) }
+    pub(crate) fn new(node: Node, place: usize) -> Drawn
+        requires { place < 32 }
         ensures node { result.node ≡ node }
         ensures place { result.place ≡ place }
     {
@@ -13,9 +14,9 @@ impl Drawn {
     }
 
     pub fn node(&self) -> usize
-        ensures { result ≡ self.now.node }
+        ensures { result ≡ self.now.node.index }
     {
-        self.node
+        self.node.index()
     }
 
     pub fn place(&self) -> usize

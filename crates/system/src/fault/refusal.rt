@@ -25,7 +25,7 @@ fn at_cell(layer: Layer, number: u64, node: Node, address: Address) -> Refusal
         .with_address(u64::from(address))
 }
 
-// A function, and no `From`: neither a line's or home's fault nor `Refusal` is of this crate.
+// No `From` beside a line's or home's fault: which number each has is said of the whole memory, here.
 fn of_lines(fault: LineFault) -> Refusal
     ensures { result ≡ scripted (refusal_of (SystemFault.Lines fault)) }
 {

@@ -10,7 +10,7 @@ ghost use Rattle.system.specs.Systems.{moment, answered};
 ghost use Rattle.system.specs.Through.{Called};
 
 use super::System;
-use super::offers::offer_one;
+use super::offers::offer_all;
 use crate::fault::SystemFault;
 use lines::{ActFault, Outgoing, Traffic};
 use network::{Address, Message, Network, Node};
@@ -61,7 +61,7 @@ impl<N: Network> System<N> {
             .act(me, pick as usize, traffic)
             .map_err(|fault| whole_fault(node, fault))?;
         let message = self.message(me, done.sends);
-        offer_one(&mut self.network, message);
+        offer_all(&mut self.network, message.into_iter());
         Ok(done.readied)
     }
 }

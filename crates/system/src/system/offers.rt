@@ -1,12 +1,10 @@
 // Messages are offered to a network, which takes each where it has room.
-ghost use Rattle.std.specs.Prelude.{◌≡◌, map};
-ghost use Rattle.std.specs.Option.{option_map, option_to_list};
+ghost use Rattle.std.specs.Prelude.{◌≡◌, List, map};
+ghost use Rattle.std.specs.Iterator.{Drains, IsFinite};
 ghost use Rattle.network.specs.Bags.{Joins, Offered};
 ghost use Rattle.network.specs.Messages.{plain};
-ghost use Rattle.home.specs.Pending.{pending};
 ghost use Rattle.system.specs.Through.{Offer, Offers};
 
-use home::Replies;
 use network::{Message, Network};
 
 fn offer<N: Network>(network: &mut N, message: Message)
@@ -17,22 +15,16 @@ fn offer<N: Network>(network: &mut N, message: Message)
     let _ = network.send(message);
 }
 
-pub(super) fn offer_one<N: Network>(network: &mut N, message: Option<Message>)
-    ensures offers { Offers N.Network network.old (option_to_list (option_map plain message)) network.new }
-    ensures bag { Offered (N.Network.bound network.old) (map plain (N.Network.bag network.old)) (option_to_list (option_map plain message)) (map plain (N.Network.bag network.new)) }
+pub(super) fn offer_all<N: Network, I: Iterator<Item = Message> + Drop>(
+    network: &mut N,
+    messages: I,
+)
+    requires can { I.can_next messages }
+    requires ends { IsFinite (I.remaining messages) }
+    ensures all { (sent : List Message) × Drains I.next_gives messages sent × Offers N.Network network.old (map plain sent) network.new × Offered (N.Network.bound network.old) (map plain (N.Network.bag network.old)) (map plain sent) (map plain (N.Network.bag network.new)) }
     ensures bound { N.Network.bound network.new ≡ N.Network.bound network.old }
 {
-    if let Some(message) = message {
+    for message in messages {
         offer(network, message);
-    }
-}
-
-pub(super) fn offer_all<N: Network>(network: &mut N, replies: Replies)
-    ensures offers { Offers N.Network network.old (pending replies) network.new }
-    ensures bag { Offered (N.Network.bound network.old) (map plain (N.Network.bag network.old)) (pending replies) (map plain (N.Network.bag network.new)) }
-    ensures bound { N.Network.bound network.new ≡ N.Network.bound network.old }
-{
-    for reply in replies {
-        offer(network, reply);
     }
 }

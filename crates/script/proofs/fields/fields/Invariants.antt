@@ -1,5 +1,5 @@
-use Rattle.script.proofs.Commas.{Sofar, pending}
+use Rattle.script.proofs.Commas.{Sofar}
 use Rattle.script.proofs.fields.fields.Given as goal
 
-abbrev pub invariant-loop-i : goal.invariant-loop-i
-invariant-loop-i g l = Sofar g.row.N l.text l.value-items l.i (pending l.i l.rest)
+abbrev pub invariant-loop-value : goal.invariant-loop-value
+invariant-loop-value g l = Sofar g.row.N l.text l.value-items l.value-index l.rest

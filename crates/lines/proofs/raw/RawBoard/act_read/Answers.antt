@@ -18,11 +18,11 @@ must_be_held (Drawn r v) q e other = grind arith
 
 pub returns-in_default : goal.returns-in_default
 returns-in_default c =
-    let h = command_held (raw_tables c.args.self.now) c.args.pick c.args.place c.requires.facts c.requires.named in
+    let h = command_held (raw_tables c.args.self.now) c.args.turn.pick c.args.place c.requires.facts c.requires.named in
     absurd (must_be_held c.place.result _ (c.place.ensures ∙ h.1) c.in_default.not-Held)
 
 pub make_ready-requires : goal.make_ready-requires
-make_ready-requires c = held_room (raw_tables c.args.self.now) c.args.pick c.args.place c.requires.facts c.requires.named
+make_ready-requires c = held_room (raw_tables c.args.self.now) c.args.turn.pick c.args.place c.requires.facts c.requires.named
 
 pub join-requires : goal.join-requires
-join-requires c = list_room (raw_tables c.args.self.now) _ c.args.pick c.args.place c.requires.facts c.requires.named
+join-requires c = list_room (raw_tables c.args.self.now) _ c.args.turn.pick c.args.place c.requires.facts c.requires.named

@@ -12,6 +12,6 @@ invariant_of-self-2 g c =
     let was = c.args.self.now in
     let token = c.in_ok-token.token in
     let answer = c.in_ok-token.answer in
-    parks_drawn g.N.Network was.system c.draw.new.self (draw c.args.node) c.args.node token.node token.place answer.place
+    parks_drawn g.N.Network was.system c.draw.new.self (draw c.args.node) c.args.node token.node.index token.place answer.place
     (plain_read answer.read) answer.word was.parking.places c.park.new.self.places c.in_ok-token.ensures.token.0 c.in_ok-token.ensures.token.1
     was.parked was.at_work c.in_ok-token.ensures.call c.park.ensures.places c.park.ensures.there

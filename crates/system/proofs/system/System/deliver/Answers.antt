@@ -9,8 +9,10 @@ use Rattle.protocol.specs.Moments.{cell_at, board_at, with_board, with_cell, del
 use Rattle.protocol.specs.Steps.{at_home, delivers, takes}
 use Rattle.system.specs.declared.fault.SystemFault.TheVariants.{NothingInTransit, Home}
 use Rattle.system.specs.Systems.{moment}
+use Rattle.system.specs.Through.{Offers}
 use Rattle.system.proofs.Boards.{there, left_there}
 use Rattle.system.proofs.Delivery.{too_early, delivery, goes_home, comes_back}
+use Rattle.system.proofs.Offers.{replies_given}
 use Rattle.system.proofs.Steps.{told}
 use Rattle.system.proofs.system.System.deliver.Goals as goal
 
@@ -69,10 +71,14 @@ returns-in_ok-replies-in-Read g c =
     let x = c.in_ok-message.message in
     let rest = c.take.new.self in
     let last = c.offer_all.new.network in
+    let replies = c.in_ok-replies-in-Read.replies in
+    let (given, drains, offers, bag) = c.offer_all.ensures.all in
+    let out = replies_given replies given drains in
     let after = home.after (cell_at m x.address.index) (plain x) in
     delivery net {m = m} refl k c.take.result rest last m.boards c.receive.new.self.cells c.in_ok-check_started.ensures.within c.take.ensures.takes c.take.ensures.bag
     (ap (λ o. delivers m k (option_map plain o)) c.in_ok-message.ensures.ok_part
     ∙ goes_home m k x c.kind.result c.kind.ensures c.in-Read.is ∙ ap (at_home m k x.address.index after) (sym c.in_ok-replies-in-Read.ensures.answer))
-    c.offer_all.ensures.offers
-    (subst (λ b. Offered b (map plain (net.bag rest)) (pending c.in_ok-replies-in-Read.replies) (map plain (net.bag last))) c.take.ensures.bound c.offer_all.ensures.bag)
+    (subst (λ ms. Offers net rest ms last) out offers)
+    (subst (λ b. Offered b (map plain (net.bag rest)) (pending replies) (map plain (net.bag last))) c.take.ensures.bound
+    (subst (λ ms. Offered (net.bound rest) (map plain (net.bag rest)) ms (map plain (net.bag last))) out bag))
     refl c.in_ok-replies-in-Read.ensures.cells (c.offer_all.ensures.bound ∙ c.take.ensures.bound)

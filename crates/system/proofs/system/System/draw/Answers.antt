@@ -12,10 +12,10 @@ use Rattle.system.proofs.Draws.{nothing_drawn, drawn_within}
 use Rattle.system.proofs.Steps.{quiet_board, stopped}
 use Rattle.system.proofs.system.System.draw.Goals as goal
 
-pub returns-in_err-check_node-clause-call : goal.returns-in_err-check_node-clause-call
-returns-in_err-check_node-clause-call g c =
+pub returns-in_err-at-clause-call : goal.returns-in_err-at-clause-call
+returns-in_err-at-clause-call g c =
     let call = draw c.args.node in
-    stopped g.N.Network c.args.self.now call _ c.in_err-check_node.field-0.0 c.from_residual.result c.from_residual.ensures.1 (refl, refl) (refl, refl) (c.in_err-check_node.ensures.rule call _)
+    stopped g.N.Network c.args.self.now call _ c.in_err-at.field-0.0 c.from_residual.result c.from_residual.ensures.1 (refl, refl) (refl, refl) (c.in_err-at.ensures.rule call _)
 
 pub returns-in_err-answer-clause-call : goal.returns-in_err-answer-clause-call
 returns-in_err-answer-clause-call g c =
@@ -23,31 +23,31 @@ returns-in_err-answer-clause-call g c =
     let m = moment g.N.Network s in
     let n = c.args.node in
     let t = board_at m n in
-    let i = c.index-at.result in
-    let same : i ≡ n = c.index-at.ensures.value ∙ c.in_ok-check_node.ensures.within.0 in
+    let i = c.index.result in
+    let same : i ≡ n = c.index.ensures.value ∙ c.in_ok-at.ensures.within.0 in
     let lt : i < length s.boards = omega arith in
-    let at-node = there s.boards same c.index-boards-at.result lt in
+    let at-node = there s.boards same c.index-boards-index.result lt in
     let none = ap (option_map plain_answer) (sym c.in_err-answer.ensures.ok_part) ∙ c.draw.ensures.answer ∙ ap (λ k. first_ready k k.order) at-node in
     kept g.N.Network s n (draw n) (refl, refl) (refl, refl) (NothingReady n) c.from_residual-in_err-answer.result _ _ (drawing t t.order) (search rules)
     (left_there s.boards same c.draw.new.self (c.draw.ensures.after ∙ ap (λ k. drawing k k.order) at-node))
-    (c.in_ok-check_node.ensures.rule (draw n) _ ∙ ap (draws m n) (sym none))
+    (c.in_ok-at.ensures.rule (draw n) _ ∙ ap (draws m n) (sym none))
     (nothing_drawn t t.order none)
 
 pub new-requires : goal.new-requires
 new-requires g c =
-    let b = get_or c.args.self.now.boards c.index-at.result c.index-boards-at.result in
-    (omega arith, drawn_within (tables b) c.in_ok-answer.answer b.facts.ready_once b.facts.all_places (ap (option_map plain_answer) (sym c.in_ok-answer.ensures.ok_part) ∙ c.draw.ensures.answer))
+    let b = get_or c.args.self.now.boards c.index.result c.index-boards-index.result in
+    drawn_within (tables b) c.in_ok-answer.answer b.facts.ready_once b.facts.all_places (ap (option_map plain_answer) (sym c.in_ok-answer.ensures.ok_part) ∙ c.draw.ensures.answer)
 
 pub returns-clause-call : goal.returns-clause-call
 returns-clause-call g c =
     let s = c.args.self.now in
     let m = moment g.N.Network s in
     let n = c.args.node in
-    let i = c.index-at.result in
-    let same : i ≡ n = c.index-at.ensures.value ∙ c.in_ok-check_node.ensures.within.0 in
+    let i = c.index.result in
+    let same : i ≡ n = c.index.ensures.value ∙ c.in_ok-at.ensures.within.0 in
     let lt : i < length s.boards = omega arith in
-    let at-node = there s.boards same c.index-boards-at.result lt in
+    let at-node = there s.boards same c.index-boards-index.result lt in
     let some = ap (option_map plain_answer) (sym c.in_ok-answer.ensures.ok_part) ∙ c.draw.ensures.answer ∙ ap (λ k. first_ready k k.order) at-node in
     quiet_board g.N.Network {m = m} (draw n) _ n _ (refl, refl) (refl, refl)
     (left_there s.boards same c.draw.new.self (c.draw.ensures.after ∙ ap (λ k. drawing k k.order) at-node))
-    (c.in_ok-check_node.ensures.rule (draw n) _ ∙ ap (draws m n) (sym some)) refl
+    (c.in_ok-at.ensures.rule (draw n) _ ∙ ap (draws m n) (sym some)) refl

@@ -1,35 +1,41 @@
-use Rattle.std.proofs.Common.{map, sym, refl, ap, ◌∙◌, subst}
+use Rattle.std.proofs.Common.{[], ◌∷◌, map, sym, refl, ◌∙◌, subst}
+use Rattle.std.proofs.lemmas.List.{append-nil}
+use Rattle.std.specs.Iterator.{Yields}
 use Rattle.network.specs.Bags.{Joins, Offered}
 use Rattle.network.specs.Messages.{plain}
-use Rattle.home.specs.Pending.{pending}
 use Rattle.system.specs.Through.{Offers}
-use Rattle.system.proofs.Offers.{first_offered, first_joins}
+use Rattle.system.proofs.Offers.{joins, one_more_offered}
 use Rattle.system.proofs.system.offers.offer_all.Goals as goal
 
-pub loop-reply-preserved : goal.loop-reply-preserved
-loop-reply-preserved g c =
+pub loop-message-preserved : goal.loop-message-preserved
+loop-message-preserved g c =
     let net = g.N.Network in
-    let n = c.loop-reply.network in
+    let n = c.loop-message.network in
     let next = c.offer.new.network in
-    let x = c.in-Some.reply in
-    let ps = pending c.next.new.self in
-    let all = pending c.loop-reply.reply-iterator in (
-      c.offer.ensures.bound ∙ c.loop-reply.invariant.0,
-      (λ last h. c.loop-reply.invariant.1 last (first_offered net n next x ps all c.in-Some.ensures.steps c.offer.ensures.offer last h)),
-      (λ last h. c.loop-reply.invariant.2 last
-          (first_joins net n next x ps all c.in-Some.ensures.steps (net.bound c.args.network.now) (subst (λ k. Joins k (net.bag n) x (net.bag next)) c.loop-reply.invariant.0 c.offer.ensures.bag) last h)),
+    let x = c.in-Some.message in
+    let first = c.args.network.now in
+    let limit = net.bound first in
+    let joined = subst (λ k. Joins k (net.bag n) x (net.bag next)) c.loop-message.invariant.0 c.offer.ensures.bag in (
+      c.offer.ensures.bound ∙ c.loop-message.invariant.0,
+      (λ ps last h. subst (λ ms. Offers net first ms last) (sym (one_more_offered plain c.loop-message.yielded x ps))
+          (c.loop-message.invariant.1 (plain x ∷ ps) last (x, next, refl, c.offer.ensures.offer, h))),
+      (λ ps last h. subst (λ ms. Offered limit (map plain (net.bag first)) ms last) (sym (one_more_offered plain c.loop-message.yielded x ps))
+          (c.loop-message.invariant.2 (plain x ∷ ps) last (map plain (net.bag next), joins plain limit (net.bag n) x (net.bag next) joined, h))),
     )
 
 pub returns : goal.returns
 returns g c =
     let net = g.N.Network in
     let first = c.args.network.now in
-    let last = c.loop-reply.network in
-    let none = sym c.in-None.ensures.steps in
-    let into = ap pending c.into_iter-reply-iterator.ensures.into_iter_gives in
+    let last = c.loop-message.network in
+    let sent = c.loop-message.yielded in
+    let all = append-nil (map plain sent) in
     record {
-      offers = subst (λ ms. Offers net first ms last) into (c.loop-reply.invariant.1 last (subst (λ ms. Offers net last ms last) none refl));
-      bag = subst (λ ms. Offered (net.bound first) (map plain (net.bag first)) ms (map plain (net.bag last))) into
-          (c.loop-reply.invariant.2 (map plain (net.bag last)) (subst (λ ms. Offered (net.bound first) (map plain (net.bag last)) ms (map plain (net.bag last))) none refl));
-      bound = c.loop-reply.invariant.0;
+      all = (
+        sent,
+        (_, (_, subst (λ s. Yields g.I.Iterator.next_gives s sent c.loop-message.message-iterator) c.into_iter-message-iterator.ensures.into_iter_gives c.loop-message.yielded_by, c.in-None.ensures.steps)),
+        subst (λ ms. Offers net first ms last) all (c.loop-message.invariant.1 [] last refl),
+        subst (λ ms. Offered (net.bound first) (map plain (net.bag first)) ms (map plain (net.bag last))) all (c.loop-message.invariant.2 [] (map plain (net.bag last)) refl),
+      );
+      bound = c.loop-message.invariant.0;
     }
