@@ -115,6 +115,7 @@ impl Shown<'_> {
         self.show()
     }
 
+    // (By itself, as at the board: it differs from a finish in a call and in its words.)
     fn put_back(&mut self, place: usize) -> anyhow::Result<()> {
         match self.board.put_back(place) {
             Ok(()) => println!(self.rt; "  put back: place {place}")?,

@@ -15,7 +15,7 @@ pub struct ArrayVec<T, const CAP: usize> {
     ghost whole: { length items ≡ CAP },
 }
 
-// By hand, since a derive is refused for a struct with a type parameter and ghost fields.
+// By hand, since no derive writes a Clone for a struct with a type parameter and ghost fields (tried).
 impl<T: Copy, const CAP: usize> Copy for ArrayVec<T, CAP> {}
 
 impl<T: Copy, const CAP: usize> Clone for ArrayVec<T, CAP> {

@@ -49,7 +49,7 @@ pub fn run_example() -> Example
 {
     let mut session = Session::new(Pool::new());
     let mut answers = [Answer::Done; 15];
-    // By number: a zip with `iter_mut` lends the answers away while the law of the run speaks of them,
+    // By number (others were tried): a zip with `iter_mut` lends the answers away while the law of the run speaks of them,
     // and a `map` of the lines promises each answer, but not in what state its closure, the session inside, is left.
     for (i, text) in LINES.iter().enumerate() {
         answers[i] = session.line(Line::Text(*text));

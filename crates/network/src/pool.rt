@@ -10,7 +10,7 @@ use crate::message::Message;
 use crate::network::Network;
 use bounded::{ArrayVec, Full};
 
-// Only a take is not as in the lanes: a trait for that one method, with its rule, would be no shorter.
+// Of the network's methods only take is not as in the lanes: a trait for it, with its rule, would be no shorter.
 #[derive(Drop)]
 pub struct Pool {
     held: ArrayVec<Message, 64>,

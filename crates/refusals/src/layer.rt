@@ -12,6 +12,7 @@ pub enum Layer {
 }
 
 impl Layer {
+    // In bytes, as the lines of a script are made of bytes.
     pub fn name(self) -> &'static [u8]
         ensures name { result.now ≡ layer_text self }
         ensures short { length result.now ≤ 6 }

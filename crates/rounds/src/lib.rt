@@ -12,10 +12,7 @@ pub fn one_past(i: usize, n: usize) -> usize
     ensures value { result ≡ after n i }
     ensures law { CountsRound }
 {
-    match i.checked_add(1) {
-        Some(next) if next < n => next,
-        _ => 0,
-    }
+    i.checked_add(1).filter(|&next| next < n).unwrap_or(0)
 }
 
 // The first of `n` numbers that passes a test, counted up and round from `start`.

@@ -1,4 +1,5 @@
-// The calls of a script, and the lines that they are written as.
+// The calls of a script, and the lines that they are written as. They are plain numbers: a script knows nothing of
+// the memory, so its sizes and continuations are none of its types.
 #[derive(Clone, Copy, Debug, PartialEq, Eq)]
 pub enum Call {
     Start {

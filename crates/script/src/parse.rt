@@ -80,7 +80,8 @@ fn call_of(letter: char, text: &[u8]) -> Result<Call, NotALine>
 }
 
 impl Call {
-    // The call that a line writes; the line stands here without its line feed. It is bytes, and `FromStr` reads a `str`.
+    // The call that a line writes; the line stands here without its line feed. No `FromStr`, which reads a `str`, and
+    // no `TryFrom`: the three clauses would have to be one relation.
     pub fn parse(line: &[u8]) -> Result<Call, NotALine>
         ensures writes { MatchResult result (λ c. Writes c line.now) (λ _. NoCall line.now) }
         ensures back { ReadsBack line.now result }

@@ -16,7 +16,7 @@ const ANSWER: usize = 128;
 const CHUNK: usize = 4096;
 
 // A session, and what is read of its next line.
-// The output stands apart: as a field, each contract would have to say that it stays the same borrow.
+// The output stands apart: as a field (tried), each contract would have to say that it stays the same borrow.
 #[derive(Drop)]
 struct Serving<N> {
     session: Session<N>,

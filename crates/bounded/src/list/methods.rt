@@ -57,7 +57,7 @@ impl<T: Copy, const CAP: usize> ArrayVec<T, CAP> {
         Some(x)
     }
 
-    // Writes the value at `i`; where there is none, nothing changes.
+    // Writes the value at `i`; where there is none, nothing changes. (By a test: `get_mut` does not say what the slice ends as.)
     pub fn set(&mut self, i: usize, x: T)
         ensures { listed self.new ≡ slice_set (listed self.old) i x }
     {

@@ -11,6 +11,7 @@ impl<const LIMIT: u16> Number<LIMIT> {
     pub fn new(number: u64) -> Option<Number<LIMIT>>
         ensures { option_map (λ n. n.index) result ≡ below LIMIT number }
     {
+        // A match, since of a closure over `LIMIT` the check infers nothing.
         match u16::try_from(number) {
             Ok(index) if index < LIMIT => Some(Number { index }),
             _ => None,

@@ -71,6 +71,7 @@ impl<N: Network> System<N> {
         if unfit(&self.network) {
             return Err(SystemFault::NetworkUnfit);
         }
+        // A u64 goes into no usize by From, and these are small by now: a try_from could fail on nothing. So in `create`.
         let board = Board::new(sizes.lines as usize).unwrap();
         self.nodes = sizes.nodes as usize;
         self.cells = sizes.cells as usize;
