@@ -2,18 +2,18 @@
 use Rattle.std.specs.Prelude.{◌≡◌, ℕ, ◌+◌, cond, Ok, Err, Result, ◌==◌, nat_lt}
 use Rattle.network.specs.declared.network.Network.{Ghosts}
 use Rattle.lines.specs.Model.{Read}
-use Rattle.protocol.specs.Moments.{Call, Event, refused}
+use Rattle.protocol.specs.Moments.{Call, Event}
 use Rattle.system.specs.declared.system.System.{System}
+use Rattle.system.specs.Systems.{answered_by}
 use Rattle.system.specs.Through.{Called}
 use Rattle.array.specs.declared.fault.ArrayFault.{ArrayFault}
 use Rattle.array.specs.declared.fault.ArrayFault.TheVariants.{NoSuchIndex, OtherKind}
 use Rattle.array.specs.Faults.{refusal_of}
 use Rattle.array.specs.References.{Plain}
 
--- a call of the system with its answer: taken, or refused for a fault
+-- a call of the system with its answer: taken, or refused for what an array's fault tells
 abbrev pub answered : {X : Type 0} → Call → (X → Event) → Result X ArrayFault → Event
-answered c taken (Ok x) = taken x
-answered c taken (Err fault) = refused c (refusal_of fault)
+answered c taken r = answered_by refusal_of c taken r
 
 -- the address of an element: 9 where the array is of another kind, then 8 where the index is not below its length
 abbrev pub address_of : ℕ → Plain → ℕ → Result ℕ ArrayFault

@@ -14,11 +14,14 @@ use Rattle.protocol.specs.Moments.{Moment, is_started, Call, finish, put_back, D
 use Rattle.protocol.specs.Steps.{Outcome, refuse, does, Asks, Reached, new, then}
 use Rattle.system.specs.declared.fault.SystemFault.{SystemFault}
 use Rattle.system.specs.declared.system.System.{System}
+use Rattle.system.specs.Faults.{refusal_of}
 use Rattle.system.specs.Parked.{is_parked, parking}
 use Rattle.system.specs.Systems.{moment, answered}
 use Rattle.system.specs.Through.{Called, Takes}
 use Rattle.system.proofs.Steps.{at_work, quiet}
+use Rattle.script.specs.declared.answer.Answer.{Answer}
 use Rattle.session.specs.Drawn.{drawn_at}
+use Rattle.session.specs.Results.{Tells, of_memory}
 use Rattle.session.proofs.Lists.{at_place, of_replicate}
 use Rattle.session.proofs.Boards.{start_undrawn, drawn_in}
 use Rattle.session.proofs.Drawn.{drawn_on, AtWork, marks, marks_deed, Keeping, silent, Shows, does_shows}
@@ -112,3 +115,9 @@ begins net s rows first none =
 pub stays : {N : Type 0} (net : Ghosts N) (s : System N) (c : Call) (why : Refusal) → Takes net (moment net s) c s.network None s.network → Asks (moment net s) c None (moment net s).bag
     → does (moment net s) c None ≡ refuse (moment net s) c why → Called net s c (refused c why) s
 stays net s c why none asks is = quiet net c none asks is refl
+
+-- what such a call is told
+pub told_undrawn : {N : Type 0} (net : Ghosts N) (s : System N) (c : Call) (fault : SystemFault) (r : Result Answer SystemFault) → r ≡ Err fault → Takes net (moment net s) c s.network None s.network → Asks (moment net s) c None (moment net s).bag
+    → does (moment net s) c None ≡ refuse (moment net s) c (refusal_of fault) → Tells net s c r s
+told_undrawn net s c fault r is none asks all =
+    record { event = refused c (refusal_of fault); called = stays net s c (refusal_of fault) none asks all; tells = ap of_memory is }

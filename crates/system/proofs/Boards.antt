@@ -1,15 +1,15 @@
 -- A call on the board of a node.
-use Rattle.std.proofs.Common.{◌≡◌, ℕ, ◌<◌, Bool, true, false, cond, List, map, length, get_or, set, is_ok, Some, None, Ok, Err, IsErrAnd, MatchResult, Result, sym, refl, ap, ◌∙◌}
+use Rattle.std.proofs.Common.{◌≡◌, ℕ, ◌<◌, Bool, true, false, cond, List, map, length, get_or, set, is_ok, Some, None, Ok, Err, IsErrAnd, MatchResult, Result, sym, refl, ap, ◌∙◌, subst}
 use Rattle.std.specs.Result.{result_ok}
 use Rattle.std.proofs.lemmas.List.{map-set, get_or-map}
 use Rattle.std.proofs.lemmas.Bool.{cond-true, cond-false}
 use Rattle.network.specs.declared.network.Network.{Ghosts}
 use Rattle.lines.specs.declared.board.Board.{Board}
 use Rattle.lines.specs.Boards.{tables}
-use Rattle.lines.specs.Model.{Tables, Read, start, free_place, given}
-use Rattle.protocol.specs.Moments.{Moment, Call, Event, read, at, accepted, board_at, with_board}
+use Rattle.lines.specs.Model.{Tables, Read, start, is_drawn, free_place, given, place_at as drawn_at}
+use Rattle.protocol.specs.Moments.{Moment, Call, Event, read, at, accepted, board_at, place_at, with_board}
 use Rattle.protocol.specs.Moments as layer
-use Rattle.protocol.specs.Steps.{does, takes, refuse, refusal, reads, Asks}
+use Rattle.protocol.specs.Steps.{Outcome, does, at_node, takes, refuse, refusal, reads, Asks}
 use Rattle.network.specs.Messages.{plain}
 use Rattle.system.specs.declared.fault.SystemFault.{SystemFault}
 use Rattle.system.specs.declared.system.System.{System}
@@ -53,6 +53,20 @@ module _ {N : Type 0} (net : Ghosts N) (s : System N) (n : ℕ) (c : Call) (none
   gated {X} {E} (Ok x) fault r' e bs t u b is left ok rule on off =
       tried {X = X} {E = E} (Ok x) fault r' (λ _. e) bs t is left (rule ∙ cond-true b _ _ (sym ok) ∙ ap (λ k. takes e (with_board (moment net s) n k)) (sym (on (sym ok))))
   gated {X} {E} (Err y) fault r' e bs t u b is left ok rule on off = tried {X = X} {E = E} (Err y) fault r' (λ _. e) bs t is left (rule ∙ cond-false b _ _ (sym ok), off (sym ok))
+
+  -- a place that is drawn is ended, in one of its ways
+  pub ends : {X E : Type 0} (step : Tables → ℕ → Tables) (e : Event) (p : ℕ) {i k : ℕ} → i ≡ n → (b new : Board) → i < length s.boards → (r : Result X E) (fault : SystemFault) (r' : Result X SystemFault) → Refuses r fault r'
+      → tables new ≡ step (tables (get_or s.boards i b)) p → is_ok r ≡ is_drawn (drawn_at (tables (get_or s.boards i b)) p) → k ≡ n → ((o : Outcome) → at_node (moment net s) c k o ≡ o)
+      → does (moment net s) c None ≡ at_node (moment net s) c n (cond (is_drawn (place_at (moment net s) n p)) (takes e (with_board (moment net s) n (step (board_at (moment net s) n) p))) (refuse (moment net s) c (refusal_of fault)))
+      → (is_drawn (place_at (moment net s) n p) ≡ false → step (board_at (moment net s) n) p ≡ board_at (moment net s) n)
+      → Done net s.network (moment net s) c (answered c (λ _. e) r') s.network (with_boards (moment net s) (map tables (set s.boards i new)))
+  ends step e p same b new lt r fault r' is left ok there-k rule all off =
+      let at-node = there s.boards same b lt in
+      let o : Outcome = cond (is_drawn (place_at (moment net s) n p)) (takes e (with_board (moment net s) n (step (board_at (moment net s) n) p))) (refuse (moment net s) c (refusal_of fault)) in
+      gated r fault r' e _ _ _ (is_drawn (place_at (moment net s) n p)) is
+      (left_there s.boards same new (left ∙ ap (λ t. step t p) at-node))
+      (ok ∙ ap (λ t. is_drawn (drawn_at t p)) at-node)
+      (all ∙ subst (λ j. at_node (moment net s) c j o ≡ o) there-k (rule o)) (λ _. refl) off
 
 -- a read is given out where a place is free
 pub reads_so : {E : Type 0} (m : Moment) (n : ℕ) (q : Read) (r : Result ℕ E) → result_ok r ≡ free_place (board_at m n)

@@ -8,7 +8,7 @@ use Rattle.network.specs.Bags.{Offered}
 use Rattle.network.specs.Messages.{plain}
 use Rattle.lines.specs.Model.{Tables, start}
 use Rattle.protocol.specs.Moments.{Moment, is_started, board_at, Call, Event, refused, with_bag, with_board}
-use Rattle.protocol.specs.Steps.{does, takes, refuse, Asks, Step}
+use Rattle.protocol.specs.Steps.{Outcome, does, at_node, takes, refuse, Asks, Step}
 use Rattle.protocol.proofs.Laws.{law_of_runs}
 use Rattle.system.specs.declared.fault.SystemFault.{SystemFault}
 use Rattle.system.specs.Faults.{refusal_of}
@@ -59,6 +59,14 @@ pub stopped : {N : Type 0} (net : Ghosts N) (s : System N) {X : Type 0} (c : Cal
     → Takes net (moment net s) c s.network None s.network → Asks (moment net s) c None (map plain (net.bag s.network)) → does (moment net s) c None ≡ refuse (moment net s) c (refusal_of fault)
     → Done net s.network (moment net s) c (answered c taken r) s.network (moment net s)
 stopped net s c taken fault r err none asks is = quiet net {m = moment net s} c none asks (is ∙ ap (λ e. takes e (moment net s)) (told c taken fault r err)) refl
+
+-- the same, where the node was checked by a number that is equal
+pub stopped_at : {N : Type 0} (net : Ghosts N) (s : System N) {X : Type 0} (c : Call) (taken : X → Event) (fault : SystemFault) (r : Result X SystemFault) → IsErrAnd r (λ y. y ≡ fault)
+    → Takes net (moment net s) c s.network None s.network → Asks (moment net s) c None (map plain (net.bag s.network)) → {k n : ℕ} → k ≡ n
+    → ((o : Outcome) → at_node (moment net s) c k o ≡ refuse (moment net s) c (refusal_of fault)) → (all : Outcome) → does (moment net s) c None ≡ at_node (moment net s) c n all
+    → Done net s.network (moment net s) c (answered c taken r) s.network (moment net s)
+stopped_at net s c taken fault r err none asks same rule all is =
+    stopped net s c taken fault r err none asks (is ∙ subst (λ k. at_node (moment net s) c k all ≡ refuse (moment net s) c (refusal_of fault)) same (rule all))
 
 -- the boards of a moment are others
 abbrev pub with_boards : Moment → List Tables → Moment

@@ -5,7 +5,7 @@ use Rattle.network.specs.Messages.{plain}
 use Rattle.lines.specs.declared.board.Board.{Board}
 use Rattle.lines.specs.Boards.{tables}
 use Rattle.lines.specs.Model.{Tables, Read, start}
-use Rattle.protocol.specs.Moments.{Moment, Call, Event, refused}
+use Rattle.protocol.specs.Moments.{Moment, Call, Event, Refusal, refused}
 use Rattle.protocol.specs.Steps.{Outcome, refuse}
 use Rattle.system.specs.declared.fault.SystemFault.{SystemFault}
 use Rattle.system.specs.declared.system.System.{System}
@@ -34,10 +34,13 @@ boards_with boards n t = slice_set (map tables boards) n t
 abbrev pub asked : ℕ → ℕ → ℕ → Read
 asked address frame instruction = record { address = address; frame = frame; instruction = instruction }
 
--- a call with its answer: taken, or refused for a fault
+-- a call with its answer: taken, or refused for what a fault tells
+abbrev pub answered_by : {X F : Type 0} → (F → Refusal) → Call → (X → Event) → Result X F → Event
+answered_by why c taken (Ok x) = taken x
+answered_by why c taken (Err fault) = refused c (why fault)
+
 abbrev pub answered : {X : Type 0} → Call → (X → Event) → Result X SystemFault → Event
-answered c taken (Ok x) = taken x
-answered c taken (Err fault) = refused c (refusal_of fault)
+answered c taken r = answered_by refusal_of c taken r
 
 -- what a check says of a call whose whole outcome is `all`: it goes on with the outcome o, or is refused for a fault
 abbrev pub Checked : {X : Type 0} → Moment → Call → Result X SystemFault → Outcome → Outcome → Type 0

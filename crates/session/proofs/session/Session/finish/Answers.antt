@@ -1,23 +1,14 @@
-use Rattle.std.proofs.Common.{Err, ◌≡◌, sym, refl, ap, ◌∙◌, rules}
-use Rattle.protocol.specs.Moments.{finish, finished, refused}
-use Rattle.system.specs.Faults.{refusal_of}
-use Rattle.session.specs.Results.{of_memory}
-use Rattle.session.proofs.Keeps.{parks_taken_up, finish_taken, stays}
+use Rattle.std.proofs.Common.{sym, refl, ◌∙◌, rules}
+use Rattle.protocol.specs.Moments.{finish, finished}
+use Rattle.session.proofs.Keeps.{parks_taken_up, finish_taken, told_undrawn}
 use Rattle.session.proofs.session.Session.finish.Goals as goal
 
 pub returns-in_err-token : goal.returns-in_err-token
 returns-in_err-token g c =
     let was = c.args.self.now in
-    let call = finish c.args.node c.args.place in
-    let fault = c.in_err-token.field-0.0 in
-    let is : c.from_residual.result ≡ Err fault = search rules in
     let why = c.in_err-token.ensures.none in
-    record {
-      event = refused call (refusal_of fault);
-      called = stays g.N.Network was.system call (refusal_of fault) (refl, refl) (refl, refl)
-          (why.undrawn.finishing c.args.place (sym (was.parked c.args.node c.args.place) ∙ why.was));
-      tells = ap of_memory is;
-    }
+    told_undrawn g.N.Network was.system (finish c.args.node c.args.place) c.in_err-token.field-0.0 c.from_residual.result (search rules) (refl, refl) (refl, refl)
+    (why.undrawn.finishing c.args.place (sym (was.parked c.args.node c.args.place) ∙ why.was))
 
 pub invariant_of-self-2 : goal.invariant_of-self-2
 invariant_of-self-2 g c =
