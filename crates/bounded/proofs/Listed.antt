@@ -16,3 +16,7 @@ moved_up xs n i le lt =
     let front = take-take i n xs (omega arith) in
     let back : drop (suc i) (take n xs) ≡ take many (drop (suc i) xs) = ap (λ m. drop (suc i) (take m xs)) whole ∙ drop-take (suc i) many xs in
     cc
+
+-- the same where the copy's first place is known to be the next one
+pub moved_from : {X : Type 0} (xs ys : List X) (n i from : ℕ) → ys ≡ copy_within xs from n i → from ≡ i + 1 → n ≤ length xs → i < n → take (n - 1) ys ≡ remove (take n xs) i
+moved_from xs ys n i from is next le lt = ap (take (n - 1)) (is ∙ ap (λ k. copy_within xs k n i) next) ∙ moved_up xs n i le lt

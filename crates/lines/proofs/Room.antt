@@ -61,6 +61,9 @@ read_marks t s k = let a = times-reads k t.commands in let b = s.held_once k in 
 reads_few : (t : Tables) → Facts t → length (reads t.commands) ≤ 32
 reads_few t s = let a = few if_held t.places (reads t.commands) refl one_held (read_marks t s) in let b = s.all_places in omega arith
 
+pub commands_few : (t : Tables) → Facts t → length t.commands ≤ 64
+commands_few t s = let a = reads_few t s in let b = length-commands t.commands in let c = s.few_writes in omega arith
+
 pub read_room : (t : Tables) (p : ℕ) → Facts t → free_place t ≡ Some p → length t.commands < 64
 read_room t p s e =
     let (h, w) = free_is_free t p s e in
@@ -80,11 +83,17 @@ write_room t s e =
 order_marks : (t : Tables) → Facts t → (k : ℕ) → times k t.order ≤ if_ready (place_at t k)
 order_marks t s k = let b = s.ready_once k in omega arith
 
+pub order_few : (t : Tables) → Facts t → length t.order ≤ 32
+order_few t s = let a = few if_ready t.places t.order refl one_ready (order_marks t s) in let b = s.all_places in omega arith
+
 pub order_room : (t : Tables) (p : ℕ) → Facts t → if_ready (place_at t p) ≡ 0 → p < 32 → length t.order < 32
 order_room t p s e h =
     let l = s.all_places in
     let a = room if_ready t.places t.order p refl one_ready (order_marks t s) e (omega arith) in
     omega arith
+
+pub list_few : (t : Tables) (i : ℕ) → Facts t → length (waits (line_at t i)) ≤ 32
+list_few t i s = let a = few if_deferred t.places (waits (line_at t i)) refl one_deferred (λ j. listed_mark t i j s) in let b = s.all_places in omega arith
 
 pub list_room : (t : Tables) (i k p : ℕ) → Facts t → slice_get t.commands k ≡ Some (reading p) → length (waits (line_at t i)) < 32
 list_room t i k p s e =

@@ -8,7 +8,7 @@ ghost use Rattle.std.proofs.Common.{rules};
 use crate::message::Message;
 use crate::network::Network;
 use bounded::{ArrayVec, Full};
-use rounds::first_round;
+use rounds::Round;
 
 #[derive(Drop)]
 pub struct Lanes {
@@ -28,7 +28,7 @@ impl Lanes {
     fn next_lane(&self, pick: u64) -> Option<usize>
         ensures { result ≡ first_round (waits (listed self.now.held)) 16 (pick % 16) }
     {
-        first_round((pick % 16) as usize, 16, |lane| {
+        Round::new((pick % 16) as usize, 16).find(|&lane| {
             first_to(self.held.as_slice(), lane) < self.held.len()
         })
     }

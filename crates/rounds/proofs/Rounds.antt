@@ -1,17 +1,13 @@
 -- How a search up and round goes on, and what it finds.
-use Rattle.std.proofs.Common.{◌≡◌, ℕ, zero, suc, ◌+◌, ◌-◌, ◌%◌, ◌<◌, ◌≤◌, Bool, true, false, List, [], ◌∷◌, ◌^◌, IfSome, ltb, Some, None, Option, sym, refl, ap, ◌∙◌, subst, ⊎_elim, mod-lt, mod-eq_of_lt, arith}
+use Rattle.std.proofs.Common.{◌≡◌, ℕ, zero, suc, ◌+◌, ◌-◌, ◌%◌, ◌<◌, ◌≤◌, Bool, true, false, List, [], ◌∷◌, ◌^◌, IfSome, ltb, add-one, cond, Some, None, Option, sym, refl, ap, ◌∙◌, subst, ⊎_elim, mod-lt, mod-eq_of_lt, arith}
 use native.Mathlib.Nat.{add-mod_left, add-mod_right}
 use Rattle.std.proofs.lemmas.Bool.{lt-ltb, le-ltb, cases_lt, cases_Bool, cond-true, cond-false}
 use denote.Ref.{Bor}
 use denote.Param.Members.{Mut}
 use Rattle.std.specs.Fn.{CalledAt}
-use Rattle.std.specs.Iterator.{ActsAsAt, FindsItem, YieldsThen}
-use Rattle.std.specs.Iterator.Adapters.{successors_next, successors_callee, successors_steps, take_source, take_count, take_steps}
-use Rattle.std.specs.List.{FoldsTo}
-use Rattle.std.specs.declared.iter.Take.{Take}
-use Rattle.std.specs.declared.iter.Successors.{Successors}
-use Rattle.std.proofs.lemmas.Option.{none-some, same_Some}
-use Rattle.rounds.specs.Rounds.{after, first_of, first_round, First, Searched, CountsRound}
+use Rattle.std.specs.Iterator.{FindsItem, YieldsFirst, YieldsThen}
+use Rattle.std.specs.List.{find, FoldsTo}
+use Rattle.rounds.specs.Rounds.{after, walk, first_of, first_round, First, Searched, CountsRound, FindsFirst}
 
 pub after_next : (n i : ℕ) → i + 1 < n → after n i ≡ i + 1
 after_next n i lt = cond-true (ltb (i + 1) n) (i + 1) 0 (lt-ltb (i + 1) n lt)
@@ -97,39 +93,58 @@ module _ (test : ℕ → Bool) (n : ℕ) where
 pub counts_round : CountsRound
 counts_round test n i lt = round test n i lt _ (within test n n i (omega arith) lt)
 
--- `next` takes a walk on up and round, and `asks` says of a number what `test` does
-module _ {F P : Type 0} (test : ℕ → Bool) (n : ℕ) (fits : n < 2 ^ 64) (next : Mut F (Bor ℕ × Unit {0}) (Option ℕ)) (f : F) (walks : ActsAsAt next f (λ i. Some (after n i)))
-    (asks : Mut P (Bor ℕ × Unit {0}) Bool) (p : P) (says : (i : ℕ) (b : Bool) (q : P) → i < 2 ^ 64 → CalledAt asks p i b q → (q ≡ p) × (b ≡ test i)) where
+pub walk_end : (n left i : ℕ) → left ≡ 0 → walk n left i ≡ []
+unfolding walk
+walk_end n left i e = ap (λ turns. walk n turns i) e
+
+walk_turn : (n turns i : ℕ) → walk n (suc turns) i ≡ i ∷ walk n turns (after n i)
+unfolding walk
+walk_turn n turns i = refl
+
+-- a turn of the walk takes its first number
+pub walks : (n left rest i : ℕ) → rest + 1 ≡ left → walk n left i ≡ i ∷ walk n rest (after n i)
+walks n left rest i e = ap (λ turns. walk n turns i) (sym e ∙ add-one rest) ∙ walk_turn n rest i
+
+-- the first that passes, of the numbers of so many turns
+find_walk : (test : ℕ → Bool) (n turns i : ℕ) → find test (walk n turns i) ≡ first_of test n turns i
+unfolding walk first_of
+find_walk test n zero i = refl
+find_walk test n (suc turns) i = ap (cond (test i) (Some i)) (find_walk test n turns (after n i))
+
+pub walk_finds : FindsFirst
+walk_finds test n i = find_walk test n n i
+
+-- `asks` says of a number what `test` does
+module _ {P : Type 0} (test : ℕ → Bool) (n : ℕ) (fits : n < 2 ^ 64) (asks : Mut P (Bor ℕ × Unit {0}) Bool) (p : P)
+    (says : (i : ℕ) (b : Bool) (q : P) → i < 2 ^ 64 → CalledAt asks p i b q → (q ≡ p) × (b ≡ test i)) where
   after_fits : (i : ℕ) → after n i < 2 ^ 64
   after_fits i = ⊎_elim (λ h. omega (arith, after_next n i h)) (λ h. omega (arith, after_last n i h)) (cases_lt (i + 1) n)
 
   -- where so many turns are left at i, and what is found is asked first
-  found_now : (turns i : ℕ) (s u : Take (Successors ℕ F)) (r : Option ℕ) → i < 2 ^ 64 → take_count s ≡ turns → successors_next (take_source s) ≡ Some i
-      → take_steps (successors_steps next) s r u → IfSome r (λ k. (h : P) × CalledAt asks p k true h) → r ≡ first_of test n turns i
-  found_now zero i s u None low count at step hit = sym (none_left test n i)
-  found_now zero i s u (Some k) low count at step hit = absurd (omega (arith, step.1, count))
-  found_now (suc turns) i s u None low count at step hit = absurd (none-some i ((step (omega (arith, count))).0 ∙ at))
-  found_now (suc turns) i s u (Some k) low count at step (h, hit) =
-      let e = same_Some k i (step.0.0 ∙ at) in
+  found_now : (turns i : ℕ) (s u : List ℕ) (r : Option ℕ) → i < 2 ^ 64 → s ≡ walk n turns i → YieldsFirst (λ left. left) s r u → IfSome r (λ k. (h : P) × CalledAt asks p k true h)
+      → r ≡ first_of test n turns i
+  found_now zero i s u None low at step hit = sym (none_left test n i)
+  found_now zero i s u (Some k) low at step hit = let e = walk_end n 0 i refl in absurd (cc)
+  found_now (suc turns) i s u None low at step hit = let e = walk_turn n turns i in let z = step.0 in absurd (cc)
+  found_now (suc turns) i s u (Some k) low at step (h, hit) =
+      let t = walk_turn n turns i in
+      let e : k ≡ i = cc in
       ap Some e ∙ sym (turn_hit test n turns i (sym (says i true h low (subst (λ k. CalledAt asks p k true h) e hit)).1))
 
   -- the same, where others are asked before
-  found : (turns i : ℕ) (s u : Take (Successors ℕ F)) (r : Option ℕ) (xs : List ℕ) (q : P) → i < 2 ^ 64 → take_count s ≡ turns → successors_next (take_source s) ≡ Some i
-      → successors_callee (take_source s) ≡ f → YieldsThen (take_steps (successors_steps next)) s xs r u → FoldsTo (λ a k b. CalledAt asks a k false b) p xs q
-      → IfSome r (λ k. (h : P) × CalledAt asks q k true h) → r ≡ first_of test n turns i
-  found turns i s u r [] q low count at same (t, is, step) asked hit =
-      found_now turns i s u r low count at (subst (λ t. take_steps (successors_steps next) t r u) (sym is) step)
-      (subst (λ q. IfSome r (λ k. (h : P) × CalledAt asks q k true h)) (sym asked) hit)
-  found zero i s u r (k ∷ xs) q low count at same (t, (v, step, more), last) asked hit = absurd (omega (arith, step.1, count))
-  found (suc turns) i s u r (k ∷ xs) q low count at same (t, (v, step, more), last) (a, miss, asked) hit =
-      let e = same_Some k i (step.0.0 ∙ at) in
+  found : (turns i : ℕ) (s u : List ℕ) (r : Option ℕ) (xs : List ℕ) (q : P) → i < 2 ^ 64 → s ≡ walk n turns i → YieldsThen (YieldsFirst (λ left. left)) s xs r u
+      → FoldsTo (λ a k b. CalledAt asks a k false b) p xs q → IfSome r (λ k. (h : P) × CalledAt asks q k true h) → r ≡ first_of test n turns i
+  found turns i s u r [] q low at (t, is, step) asked hit =
+      found_now turns i s u r low at (subst (λ t. YieldsFirst (λ left. left) t r u) (sym is) step) (subst (λ q. IfSome r (λ k. (h : P) × CalledAt asks q k true h)) (sym asked) hit)
+  found zero i s u r (k ∷ xs) q low at (t, (v, step, more), last) asked hit = let e = walk_end n 0 i refl in absurd (cc)
+  found (suc turns) i s u r (k ∷ xs) q low at (t, (v, step, more), last) (a, miss, asked) hit =
+      let w = walk_turn n turns i in
+      let e : k ≡ i = cc in
+      let f : v ≡ walk n turns (after n i) = cc in
       let m = says i false a low (subst (λ k. CalledAt asks p k false a) e miss) in
-      let w = walks k _ _ (subst (λ j. CalledAt next j k (successors_next (take_source v)) (successors_callee (take_source v))) same step.0.1) in
-      found turns (after n i) v u r xs q (after_fits i) (omega (arith, step.1, count)) (w.1 ∙ ap (λ j. Some (after n j)) e) w.0 (t, more, last)
-      (subst (λ b. FoldsTo (λ a k b. CalledAt asks a k false b) b xs q) m.0 asked) hit
+      found turns (after n i) v u r xs q (after_fits i) f (t, more, last) (subst (λ b. FoldsTo (λ a k b. CalledAt asks a k false b) b xs q) m.0 asked) hit
       ∙ sym (turn_miss test n turns i (sym m.1))
 
-  -- a search of the first n numbers of the walk is `first_round`
-  pub finds_first : (i : ℕ) (s u : Take (Successors ℕ F)) (r : Option ℕ) → i < 2 ^ 64 → take_count s ≡ n → successors_next (take_source s) ≡ Some i
-      → successors_callee (take_source s) ≡ f → FindsItem (take_steps (successors_steps next)) asks s p r u → r ≡ first_round test n i
-  finds_first i s u r low count at same (xs, q, gave, asked, hit) = found n i s u r xs q low count at same gave asked hit
+  -- a search of the numbers met once round is `first_round`
+  pub finds_first : (i : ℕ) (s u : List ℕ) (r : Option ℕ) → i < 2 ^ 64 → s ≡ walk n n i → FindsItem (YieldsFirst (λ left. left)) asks s p r u → r ≡ first_round test n i
+  finds_first i s u r low at (xs, q, gave, asked, hit) = found n i s u r xs q low at gave asked hit

@@ -1,9 +1,15 @@
 -- Counting up and round, and the first number on the way that passes a test.
-use Rattle.std.specs.Prelude.{◌≡◌, ℕ, zero, suc, ◌+◌, ◌%◌, ◌^◌, ◌<◌, Bool, true, false, cond, Some, None, Option, nat_lt}
+use Rattle.std.specs.Prelude.{◌≡◌, ℕ, zero, suc, ◌+◌, ◌%◌, ◌<◌, Bool, true, false, cond, List, [], ◌∷◌, Some, None, Option, nat_lt}
+use Rattle.std.specs.List.{find}
 
 -- the number after i of n numbers; after the last comes 0
 abbrev pub after : ℕ → ℕ → ℕ
 after n i = cond (nat_lt (i + 1) n) (i + 1) 0
+
+-- the numbers that so many turns meet, counted up and round n numbers from i
+unfoldable pub walk : ℕ → ℕ → ℕ → List ℕ
+walk n zero i = []
+walk n (suc turns) i = i ∷ walk n turns (after n i)
 
 -- the first of so many numbers, counted up and round n numbers from i, that passes the test
 unfoldable pub first_of : (ℕ → Bool) → ℕ → ℕ → ℕ → Option ℕ
@@ -31,6 +37,6 @@ Searched test n i (Some k) = First test n i k
 abbrev pub CountsRound : Type 0
 CountsRound = (test : ℕ → Bool) (n i : ℕ) → i < n → Searched test n i (first_round test n i)
 
--- what calls answer of a number is what a test says of it
-abbrev pub Tests : (ℕ → Bool → Type 0) → (ℕ → Bool) → Type 0
-Tests calls test = (i : ℕ) (b : Bool) → i < 2 ^ 64 → calls i b → b ≡ test i
+-- the first that passes a test, of the numbers met once round, is what `first_round` says
+abbrev pub FindsFirst : Type 0
+FindsFirst = (test : ℕ → Bool) (n i : ℕ) → find test (walk n n i) ≡ first_round test n i

@@ -1,12 +1,17 @@
 -- Writes to a draft, one after another.
-use Rattle.std.proofs.Common.{◌≡◌, ℕ, suc, ◌+◌, ◌^◌, ◌<◌, ◌≤◌, List, [], ◌∷◌, ◌++◌, length, get_or, take, codes, decimal, sym, refl, ap, ◌∙◌, append_assoc, arith, length-append}
+use Rattle.std.proofs.Common.{◌≡◌, ℕ, suc, ◌+◌, ◌/◌, ◌%◌, ◌^◌, ◌<◌, ◌≤◌, List, [], ◌∷◌, ◌++◌, length, get_or, take, codes, decimal, sym, refl, ap, ◌∙◌, append_assoc, arith, length-append}
 use Rattle.std.proofs.lemmas.Bool.{cond-true, lt-ltb}
+use Rattle.std.proofs.lemmas.Fmt.{decimal_step}
 use Rattle.std.proofs.lemmas.List.{take_more, take_all, append-nil, length_push}
 use Rattle.bounded.specs.Listed.{pushed}
 use Rattle.script.specs.declared.draft.Draft.{Draft}
 use Rattle.script.specs.Drafts.{written, filled, Wrote}
 use Rattle.script.specs.Texts.{fields_text, refused_text, ended, Small}
 use Rattle.script.proofs.Commas.{fields_split, length_fields}
+
+-- the digits before the last
+pub length-step : (n : ℕ) → 10 ≤ n → n < 2 ^ 64 → length (decimal n) ≡ length (decimal (n / 10)) + 1
+length-step n h fits = ap length (decimal_step n h fits) ∙ length-append (decimal (n / 10)) ((48 + n % 10) ∷ [])
 
 filled_on : (text xs bs : List ℕ) → filled (filled text xs) bs ≡ filled text (xs ++ bs)
 filled_on text [] bs = refl

@@ -1,13 +1,16 @@
 -- Numbers at the front of a text.
-use Rattle.std.proofs.Common.{◌≡◌, ℕ, zero, suc, ◌^◌, ◌<◌, Bool, true, false, ◌&&◌, eqb, ltb, List, [], ◌∷◌, ◌++◌, length, get_or, take, drop, decimal, sym, refl, ap, ◌∙◌, subst, ⊎_elim, arith}
+use Rattle.std.proofs.Common.{◌≡◌, ℕ, zero, suc, ◌+◌, ◌-◌, ◌*◌, ◌^◌, ◌<◌, ◌≤◌, Bool, true, false, ◌&&◌, eqb, ltb, List, [], ◌∷◌, ◌++◌, length, get_or, take, drop, decimal, sym, refl, ap, ◌∙◌, subst, ⊎_elim, arith, le-ltb, lt-ltb, true≢false}
 use Rattle.std.specs.Str.Parse.{AllDigits, digits_value}
-use Rattle.std.specs.Int.{IsOutOfRange}
-use Rattle.std.specs.Str.{IsUtf8}
-use Rattle.std.proofs.lemmas.Str.{IsUtf8-from_ascii}
+use Rattle.std.specs.Int.{IsInRange, IsOutOfRange}
+use Rattle.std.specs.Result.{IsErr, OkIff}
+use Rattle.std.specs.declared.result.Result.{Result}
+use Rattle.std.specs.declared.result.Result.TheVariants.{Ok, Err}
 use Rattle.std.specs.Char.{digit_value}
 use Rattle.std.specs.Float.Numeral.{digits_len}
-use Rattle.std.proofs.lemmas.Str.Parse.{IsNumeralModel, numerals_by_value, tells_digits, digit_from_value}
-use Rattle.std.proofs.lemmas.Fmt.{IsAscii-from_digits, decimal-digits_value, digits_decimal, decimal_nonempty, first_decimal, decimal_digit, digits_value-decimal}
+use Rattle.std.proofs.lemmas.Str.Parse.{IsNumeralModel, numerals_by_value, tells_digits, digit_from_value, digit_at, digits_value-take-le}
+use Rattle.std.proofs.lemmas.Int.Digits.{digits_value_more}
+use Rattle.std.proofs.lemmas.Bool.{cond-true, cond-false}
+use Rattle.std.proofs.lemmas.Fmt.{decimal-digits_value, digits_decimal, decimal_nonempty, first_decimal, decimal_digit, digits_value-decimal}
 use Rattle.std.proofs.lemmas.Bool.Decides.{nat_tests}
 use Rattle.std.proofs.lemmas.List.{take-append-drop}
 use Rattle.script.specs.Texts.{NoDigit, Parted, Front, NoFront}
@@ -49,8 +52,27 @@ after_digits (suc n) (b ∷ bs) e = let m : n ≡ digits_len bs = grind (arith, 
 pub parted : (text front rest : List ℕ) (n : ℕ) → n ≡ digits_len text → front ≡ take n text → rest ≡ drop n text → Parted text front rest
 parted text front rest n e f r = record { is = rw (f, r) (sym (take-append-drop n text)); digits = rw f (front_digits n text e); ends = rw r (after_digits n text e) }
 
-pub digits_utf8 : (ds : List ℕ) → AllDigits 10 ds → IsUtf8 ds
-digits_utf8 ds h = IsUtf8-from_ascii ds (IsAscii-from_digits ds h)
+-- digits of which some are read: what one more makes of their number, which the whole number does not fall below
+module _ (ds : List ℕ) (i n : ℕ) (all : AllDigits 10 ds) (lt : i < length ds) (so_far : n ≡ digits_value 10 (take i ds)) where
+  pub is_digit : IsInRange 48 57 (get_or ds i 0)
+  is_digit = digit_at ds i all lt
+
+  worth : digit_value (get_or ds i 0) ≡ get_or ds i 0 - 48
+  worth =
+      let low : 48 ≤ get_or ds i 0 = omega (arith, is_digit.0) in
+      let high : get_or ds i 0 < 58 = omega (arith, is_digit.1) in
+      cond-false _ _ _ (le-ltb (get_or ds i 0) 48 low) ∙ cond-true _ _ _ (lt-ltb (get_or ds i 0) 58 high)
+
+  pub one_more : n * 10 + (get_or ds i 0 - 48) ≡ digits_value 10 (take (i + 1) ds)
+  one_more = omega (arith, digits_value_more 10 ds i lt, worth, so_far)
+
+  pub at_most : n * 10 + (get_or ds i 0 - 48) ≤ digits_value 10 ds
+  at_most = omega (arith, one_more, digits_value-take-le 10 ds (i + 1) (omega arith))
+
+-- what is refused, where it must be
+pub refused : {T E : Type 0} (r : Result T E) (P : Type 0) (v : T) → IsErr r → (P → ⊥) → OkIff r P v
+refused (Ok x) P v e none = absurd (true≢false (sym e))
+refused (Err y) P v e none = none
 
 -- a number at the front is just the digits there
 same_front : (text front rest : List ℕ) → Parted text front rest → (n : ℕ) (more : List ℕ) → Front text n more → front ≡ decimal n

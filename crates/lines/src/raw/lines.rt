@@ -1,6 +1,7 @@
 // The lines: an address is looked up, a line is claimed, a word comes in.
 ghost use Rattle.std.specs.Prelude.{◌≡◌, ℕ, ◌+◌, ◌<◌, ◌≤◌, [], ◌∷◌, ◌++◌, map, length, slice_index_or, slice_set};
 ghost use Rattle.bounded.specs.Listed.{listed};
+ghost use Rattle.rounds.specs.Rounds.{first_round};
 ghost use Rattle.lines.specs.Facts.{Facts, times, if_deferred};
 ghost use Rattle.lines.specs.Model.{free, ready, read_of, waiting, is_empty, is_filled, line_at, tells, found, waits, joined, joining, claimed, claiming, woken, filling, filling_new, replied};
 ghost use Rattle.lines.specs.Plain.{plain_place, plain_line, plain_found};
@@ -11,7 +12,7 @@ use super::access::{append, at, put};
 use crate::types::{Found, Line, Place};
 use bounded::ArrayVec;
 use network::Address;
-use rounds::{first_round, one_past};
+use rounds::{Round, one_past};
 
 impl Line {
     fn is_empty(self) -> bool
@@ -57,17 +58,14 @@ impl Line {
     }
 
     // The line with one more place that waits, behind the others.
-    fn joined(self, place: usize) -> Line
+    fn joined(mut self, place: usize) -> Line
         requires { length (waits (plain_line self)) < 32 }
         ensures { plain_line result ≡ joined place (plain_line self) }
     {
-        match self {
-            Line::Waiting(address, mut places) => {
-                append(&mut places, place);
-                Line::Waiting(address, places)
-            }
-            other => other,
+        if let Line::Waiting(_, places) = &mut self {
+            append(places, place);
         }
+        self
     }
 }
 
@@ -108,9 +106,13 @@ impl RawBoard {
     pub(super) fn claim(&self) -> Option<usize>
         ensures { result ≡ claimed (raw_tables self.now) }
     {
-        let lines = self.lines.len();
-        let empty = first_round(self.hand, lines, |i| self.line(i).is_empty());
-        empty.or_else(|| first_round(self.hand, lines, |i| self.line(i).is_filled()))
+        let (hand, lines) = (self.hand, self.lines.len());
+        let empty = Round::new(hand, lines).find(|&i| self.line(i).is_empty());
+        empty.or_else(
+            ||
+                ensures { result ≡ first_round (λ i. is_filled (line_at (raw_tables self.entry.now) i)) lines hand }
+            { Round::new(hand, lines).find(|&i| self.line(i).is_filled()) },
+        )
     }
 
     // Line `i` is claimed, and the hand goes to the line after it.
@@ -128,8 +130,9 @@ impl RawBoard {
         requires { length (waits (line_at (raw_tables self.old) i)) < 32 }
         ensures { raw_tables self.new ≡ joining (raw_tables self.old) i place }
     {
-        let line = self.line(i);
-        self.lines.set(i, line.joined(place));
+        if let Some(line) = self.lines.get(i) {
+            self.lines.set(i, line.joined(place));
+        }
     }
 
     // The word comes to line `i`: its places become ready, oldest first. Answers how many they are.

@@ -11,7 +11,7 @@ use super::RawBoard;
 use super::access::{append, put};
 use crate::types::{Answer, Command, NotDrawn, Place, PlacesTaken, Read, WritesHeld};
 use network::Address;
-use rounds::{first_round, one_past};
+use rounds::{Round, one_past};
 
 const PLACES: usize = 32;
 
@@ -30,9 +30,7 @@ impl RawBoard {
     fn free_place(&self) -> Option<usize>
         ensures { result ≡ free_place (raw_tables self.now) }
     {
-        first_round(one_past(self.last, PLACES), PLACES, |p| {
-            self.place(p).is_free()
-        })
+        Round::new(one_past(self.last, PLACES), PLACES).find(|&p| self.place(p).is_free())
     }
 
     #[tactic(auto, using(crate::proofs::Mapped::mapped, crate::proofs::Counts::writes_push))]

@@ -1,4 +1,4 @@
-use Rattle.std.proofs.Common.{◌≡◌, ℕ, true, List, length, take, drop, Ok, Err, Result, sym, ap, ◌∙◌, subst}
+use Rattle.std.proofs.Common.{◌≡◌, ℕ, true, List, length, take, drop, Ok, Err, Result, sym, ap, ◌∙◌, subst, arith}
 use Rattle.std.proofs.Math.Seq.{take-append_seam}
 use Rattle.std.proofs.lemmas.Bool.{false≢true}
 use Rattle.std.proofs.lemmas.Result.{on_ok_weaker}
@@ -18,6 +18,10 @@ at_ok : {E : Type 0} (F : Type 0) (r : Result ℕ E) (n : ℕ) (P : ℕ → Type
 at_ok F (Ok x) n P Q R is ok known = subst P (sym (same_ok n x is)) known
 at_ok F (Err e) n P Q R is ok known = absurd (false≢true (sym ok))
 
+-- what came of the first n of a list came of its text
+cut_at : (xs text : List ℕ) (n m : ℕ) (P : List ℕ → Type 0) → P (take n xs) → n ≡ m → take m xs ≡ text → P text
+cut_at xs text n m P first same whole = subst P (ap (λ k. take k xs) same ∙ whole) first
+
 pub returns : goal.returns
 returns g c =
     let kept = c.in_ok-length.ensures in
@@ -26,6 +30,6 @@ returns g c =
     (λ grown. record {
       answer = c.line-answer.result;
       answers = c.line-answer.ensures.answer;
-      grows = subst (Appends (g.W.Write.contents c.args.out.now) (g.W.Write.contents c.write_all.new.self)) whole grown;
+      grows = cut_at _ _ _ _ (Appends (g.W.Write.contents c.args.out.now) (g.W.Write.contents c.write_all.new.self)) grown (omega arith) whole;
     })
     c.write_all.ensures.bytes

@@ -1,8 +1,8 @@
-use Rattle.std.proofs.Common.{◌-◌, take, ap, ◌∙◌, arith}
-use Rattle.bounded.proofs.Listed.{moved_up}
+use Rattle.std.proofs.Common.{arith}
+use Rattle.bounded.proofs.Listed.{moved_from}
 use Rattle.bounded.proofs.list.ArrayVec.remove.Goals as goal
 
 pub returns-clause-after : goal.returns-clause-after
 returns-clause-after g c =
     let s = c.args.self.now in
-    ap (take (s.len - 1)) c.copy_within.ensures.after ∙ moved_up s.items s.len c.args.i (omega arith) (omega arith)
+    moved_from s.items _ s.len c.args.i _ c.copy_within.ensures.after (omega arith) (omega arith) (omega arith)

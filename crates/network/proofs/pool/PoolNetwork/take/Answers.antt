@@ -15,6 +15,6 @@ pub returns : goal.returns
 returns c =
     let ms = listed c.args.self.now.held in
     let e = c.remove.ensures in
-    let place = c.in_ok-position.ensures.1 ∙ ap (λ n. c.args.pick % n) c.len.ensures.value in
+    let place : _ ≡ c.args.pick % length ms = c.in_ok-position.ensures.1 ∙ ap (λ n. c.args.pick % n) (omega (arith, c.len.ensures.value)) in
     let t = subst (λ i. TakenAt i ms c.remove.result (listed c.remove.new.self)) place (e.answer, e.after) in
     record { bag = taken_at _ _ _ _ (λ some. mod-lt c.args.pick some) t; bound = refl; takes = t }

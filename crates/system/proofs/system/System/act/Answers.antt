@@ -1,4 +1,4 @@
-use Rattle.std.proofs.Common.{◌≡◌, ◌+◌, ◌<◌, length, map, rules, set, refl, ◌∙◌, subst, arith}
+use Rattle.std.proofs.Common.{◌≡◌, ℕ, ◌+◌, ◌<◌, length, map, rules, set, refl, ◌∙◌, subst, arith}
 use Rattle.std.specs.Option.{option_map}
 use Rattle.network.specs.Bags.{Offered}
 use Rattle.network.specs.Messages.{plain}
@@ -32,7 +32,7 @@ returns-in_err-done g c =
     let lt : c.index.result < length s.boards = omega arith in
     let at-node = there s.boards same c.index-boards-index.result lt in
     acts_not net s.network m refl (g.met.N.Network.small s.network) n k c.in_ok-me.ensures.within.1 (λ o. c.in_ok-me.ensures.rule (act n k) o)
-    l (λ i. c.count.ensures i + c.waiting.ensures.value i) c.act.result _
+    l (omega (arith, c.count.ensures, c.waiting.ensures.value)) c.act.result _
     (c.act.ensures.answer ∙ (λ i. (board.acted (me i) (at-node i) k l (c.limit.ensures i)).answer))
     (left_there s.boards same c.act.new.self (c.act.ensures.after ∙ (λ i. (board.acted (me i) (at-node i) k l (c.limit.ensures i)).after)))
     c.in_err-done.field-0.0 c.from_residual-in_err-done.result (search rules) c.from_residual-in_err-done.ensures.1
@@ -44,7 +44,7 @@ returns g c =
     let m = moment net s in
     let n = c.args.node in
     let k = c.args.pick in
-    let l = c.count.result + c.waiting.result in
+    let l : ℕ = c.count.result + c.waiting.result in
     let d = c.in_ok-done.done in
     let last = c.offer_all.new.network in
     let me = c.in_ok-me.ensures.within.0 in
@@ -54,7 +54,7 @@ returns g c =
     let (given, drains, offers, bag) = c.offer_all.ensures.all in
     let out = message_given _ c.message-message.result given c.into_iter.ensures.into_iter_gives.0 drains ∙ c.message-message.ensures ∙ (λ i. goes_so (with_boards m (map tables (set s.boards c.index.result c.act.new.self))) m (me i) (option_map plain_outgoing d.sends) refl i) in
     acts_on net s.network m refl (g.met.N.Network.small s.network) n k c.in_ok-me.ensures.within.1 (λ o. c.in_ok-me.ensures.rule (act n k) o)
-    l (λ i. c.count.ensures i + c.waiting.ensures.value i) c.act.result _
+    l (omega (arith, c.count.ensures, c.waiting.ensures.value)) c.act.result _
     (c.act.ensures.answer ∙ (λ i. (board.acted (me i) (at-node i) k l (c.limit.ensures i)).answer))
     (left_there s.boards same c.act.new.self (c.act.ensures.after ∙ (λ i. (board.acted (me i) (at-node i) k l (c.limit.ensures i)).after)))
     d last (search rules)

@@ -36,7 +36,8 @@ returns-in_err-answer-clause-call g c =
 pub new-requires : goal.new-requires
 new-requires g c =
     let b = get_or c.args.self.now.boards c.index.result c.index-boards-index.result in
-    drawn_within (tables b) c.in_ok-answer.answer b.facts.ready_once b.facts.all_places (ap (option_map plain_answer) (sym c.in_ok-answer.ensures.ok_part) ∙ c.draw.ensures.answer)
+    let lt = drawn_within (tables b) c.in_ok-answer.answer b.facts.ready_once b.facts.all_places (ap (option_map plain_answer) (sym c.in_ok-answer.ensures.ok_part) ∙ c.draw.ensures.answer) in
+    omega (arith, lt)
 
 pub returns-clause-call : goal.returns-clause-call
 returns-clause-call g c =
