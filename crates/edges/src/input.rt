@@ -1,5 +1,6 @@
 // One script of an input as a reader of its own. Its lines are answered while they are read: none is held whole, as
 // the library's `split` holds it.
+use memchr::memchr;
 use std::io;
 use std::io::{BufRead, Read};
 
@@ -29,7 +30,7 @@ impl<R: BufRead> Read for Script<'_, R> {
         }
         let bytes = self.input.fill_buf()?;
         let room = &bytes[..bytes.len().min(buf.len())];
-        let count = room.iter().position(|&b| b == NEXT).unwrap_or(room.len());
+        let count = memchr(NEXT, room).unwrap_or(room.len());
         buf[..count].copy_from_slice(&room[..count]);
         self.ended = count < room.len();
         self.input.consume(count + usize::from(self.ended));

@@ -14,6 +14,7 @@ const CHUNK: usize = 4096;
 
 // All scripts of an input, of which each ends with a separator.
 fn run_all<R: BufRead, W: Write>(input: &mut R, out: &mut W) -> io::Result<()> {
+    // Every loop is proved to end, and nothing says that an input does.
     for _script in 0..u64::MAX {
         if input.fill_buf()?.is_empty() {
             break;
